@@ -1,0 +1,2 @@
+-- The theorem on the starred cases.
+pub mod Hold

@@ -1,0 +1,62 @@
+-- The starred cases of document 01, "Refrains to try": one table, and what it means for a row to hold.
+use Prim.Native.Nat.{ℕ, suc, _-_}
+use mathlib.Core.Bool.{Bool, true, cond, _&&_}
+use mathlib.Core.List.{List, [], _∷_}
+use lib.Dec.{eqb}
+use Rattle.matching.specs.Occurrences.{same}
+use Rattle.shifts.specs.Tables.{tabulate}
+use Rattle.shifts.specs.BadCharacter.{lastIn, sundayTable, horspoolTable}
+use Rattle.shifts.specs.Kmp.{kmpEntry, kmpTable}
+use Rattle.shifts.specs.Moves.{kmpMove}
+
+-- a row: what is asked, and the answer that document 01 gives
+pub data Case : Type 0 where
+  -- the KMP entries b[1] to b[m + 1] of a pattern, and the moves j - b[j] of source document 001, example 1
+  kmp : List ℕ → List ℕ → List ℕ → Case
+  -- all 256 Sunday or Horspool entries of a pattern: those of some letters, one after another, and that of every other letter
+  sunday : List ℕ → List ℕ → List ℕ → ℕ → Case
+  horspool : List ℕ → List ℕ → List ℕ → ℕ → Case
+
+-- the entry given to a letter, or the entry of the others
+unfoldable pub given : List ℕ → List ℕ → ℕ → ℕ → ℕ
+given [] entries others c = others
+given (l ∷ letters) [] others c = others
+given (l ∷ letters) (e ∷ entries) others c = cond (eqb c l) e (given letters entries others c)
+
+-- the moves of the entries b[j], b[j + 1], .., here for j = q + 1
+unfoldable pub movesFrom : ℕ → List ℕ → List ℕ
+movesFrom q [] = []
+movesFrom q (b ∷ entries) = (suc q - b) ∷ movesFrom (suc q) entries
+
+-- a row holds: the definitions give its answer
+unfoldable pub holds : Case → Bool
+unfolding same tabulate lastIn kmpEntry given movesFrom
+holds (kmp P entries moves) = same (kmpTable P) entries && same (movesFrom 0 (kmpTable P)) moves
+holds (sunday P letters entries others) = same (sundayTable P) (tabulate 256 (given letters entries others))
+holds (horspool P letters entries others) = same (horspoolTable P) (tabulate 256 (given letters entries others))
+
+-- every row holds
+unfoldable pub allHold : List Case → Bool
+unfolding holds
+allHold [] = true
+allHold (c ∷ cs) = holds c && allHold cs
+
+abbrev a : ℕ
+a = 97
+
+abbrev b : ℕ
+b = 98
+
+abbrev c : ℕ
+c = 99
+
+abbrev abaaca : List ℕ
+abaaca = a ∷ b ∷ a ∷ a ∷ c ∷ a ∷ []
+
+-- the table
+unfoldable pub cases : List Case
+cases =
+    kmp abaaca (0 ∷ 1 ∷ 0 ∷ 2 ∷ 2 ∷ 0 ∷ 2 ∷ []) (1 ∷ 1 ∷ 3 ∷ 2 ∷ 3 ∷ 6 ∷ 5 ∷ [])
+    ∷ sunday abaaca (a ∷ b ∷ c ∷ []) (1 ∷ 5 ∷ 2 ∷ []) 7
+    ∷ horspool abaaca (a ∷ b ∷ c ∷ []) (2 ∷ 4 ∷ 1 ∷ []) 6
+    ∷ []

@@ -1,0 +1,2 @@
+-- The starred cases.
+pub mod Cases

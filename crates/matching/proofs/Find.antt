@@ -1,0 +1,62 @@
+-- What `Found` asks of a refused find, and of one that is not refused; and the limits that hold where a find is not refused. For any engine. Assumes nothing.
+use mathlib.Core.Path.{_≡_, refl, sym, ap, _∙_}
+use Prim.Native.Nat.{ℕ, _≤_, _<_}
+use native.Mathlib.Omega.{arith}
+use mathlib.Core.Bool.{Bool, true, false, cond}
+use mathlib.Core.List.{List, _++_}
+use lib.ListN.{length, drop}
+use lib.Dec.{eqb, ltb}
+use borrow.Author.Tests.{eq-eqb, ne-eqb, eqb-false, ltb-false}
+use Rattle.matching.specs.declared.Finding.{Finding}
+use Rattle.matching.specs.Occurrences.{occurrences}
+use Rattle.matching.specs.Received.{received}
+use Rattle.matching.specs.Find.{refusal, Engine, compared, refusalOf, Found}
+use Rattle.matching.proofs.Tests.{by-test}
+
+-- the limits that a find keeps where it does not refuse
+pub record Within (m n has needs : ℕ) : Type 0 where
+  pub some : 1 ≤ m
+  pub short : m ≤ 1024
+  pub small : n ≤ 32768
+  pub room : needs ≤ has
+
+-- no refusal means that the limits are kept
+pub within : (m n has needs : ℕ) → refusal m n has needs ≡ 0 → Within m n has needs
+unfolding refusal
+within m n has needs e =
+    by-test (λ t. _≡_ {A = ℕ} (cond t 2 (cond (ltb 1024 m) 3 (cond (ltb 32768 n) 4 (cond (ltb has needs) 5 0)))) 0 → Within m n has needs) (eqb m 0)
+    (λ _ e. absurd (omega arith))
+    (λ m0.
+    by-test (λ t. _≡_ {A = ℕ} (cond t 3 (cond (ltb 32768 n) 4 (cond (ltb has needs) 5 0))) 0 → Within m n has needs) (ltb 1024 m)
+    (λ _ e. absurd (omega arith))
+    (λ m1.
+    by-test (λ t. _≡_ {A = ℕ} (cond t 4 (cond (ltb has needs) 5 0)) 0 → Within m n has needs) (ltb 32768 n)
+    (λ _ e. absurd (omega arith))
+    (λ n1.
+    by-test (λ t. _≡_ {A = ℕ} (cond t 5 0) 0 → Within m n has needs) (ltb has needs)
+    (λ _ e. absurd (omega arith))
+    (λ s1 _. record { some = omega (arith, eqb-false m 0 m0); short = ltb-false 1024 m m1; small = ltb-false 32768 n n1; room = ltb-false has needs s1 }))))
+    e
+
+module _ {e : Engine} {P T scratch list : List ℕ} where
+  -- a refusal leaves all as before
+  pub found-refused : {number : ℕ} → number ≡ refusalOf e P T scratch → (number ≡ 0 → ⊥) → Found e P T scratch list (record { refusal = number; total = 0; comparisons = 0 }) scratch list
+  found-refused {number} is some =
+      let off : eqb (refusalOf e P T scratch) 0 ≡ false = ne-eqb (refusalOf e P T scratch) 0 (λ z. some (is ∙ z)) in
+      record {
+        answer = rw (off, is);
+        left = rw off;
+        listed = rw off;
+      }
+
+  -- a find that is not refused: its answer and what it leaves
+  pub found-accepted : refusalOf e P T scratch ≡ 0 → {total comparisons : ℕ} {scratch′ list′ : List ℕ} → total ≡ length (occurrences P T) → comparisons ≡ compared e P T
+      → scratch′ ≡ e .tables P ++ drop (e .entries (length P)) scratch → list′ ≡ received list (occurrences P T)
+      → Found e P T scratch list (record { refusal = 0; total = total; comparisons = comparisons }) scratch′ list′
+  found-accepted none a b c d =
+      let on : eqb (refusalOf e P T scratch) 0 ≡ true = eq-eqb (refusalOf e P T scratch) 0 none in
+      record {
+        answer = rw (on, a, b);
+        left = rw on c;
+        listed = rw on d;
+      }

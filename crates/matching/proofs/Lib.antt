@@ -1,0 +1,8 @@
+-- The laws of this crate that others cite.
+pub mod Tests
+pub mod Occurrences
+pub mod Received
+pub mod Letters
+pub mod Machine
+pub mod Find
+pub mod Progress

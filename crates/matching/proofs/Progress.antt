@@ -1,0 +1,187 @@
+-- An engine's loop, for any engine: what is done and the rest of the run from here are the whole run. The laws: it begins, a window reports or misses,
+-- it is over, and then the find keeps its promise; the counters stay small on the way. An engine's own proof is left with the arithmetic of its moves. Assumes nothing.
+use mathlib.Core.Path.{_≡_, refl, sym, ap, subst, _∙_}
+use Prim.Native.Nat.{ℕ, zero, suc, _+_, _-_, _*_, _≤_, _<_}
+use native.Mathlib.Omega.{arith}
+use native.Mathlib.Nat.{mul-le-mul}
+use mathlib.Core.Bool.{Bool, true, false, cond}
+use mathlib.Core.List.{List, [], _∷_, _++_, append-nil, append-assoc}
+use lib.ListN.{length, set, drop, length-append}
+use lib.Dec.{eqb}
+use borrow.Author.Tests.{eq-eqb, ne-eqb}
+use Rattle.matching.specs.Occurrences.{occurrences}
+use Rattle.matching.specs.Received.{received}
+use Rattle.matching.specs.Letters.{equalOn, reach, equalDown, looks}
+use Rattle.matching.specs.Machine.{State, stop, at, Window, Steps, Visit, runFrom, run, comparedIn, positionsIn, firstToLast, lastToFirst}
+use Rattle.matching.specs.Find.{Engine, compared, refusalOf, Found}
+use Rattle.matching.proofs.Tests.{by-test}
+use Rattle.matching.proofs.Occurrences.{occurrences-few}
+use Rattle.matching.proofs.Received.{received-none, received-more, length-received}
+use Rattle.matching.proofs.Letters.{reach-le, down-le, looks-part, looks-all}
+use Rattle.matching.proofs.Machine.{Carries, Carried, carries-none, Sound, run-on, run-off, run-stop, positions-are, run-few}
+use Rattle.matching.proofs.Find.{within, found-accepted}
+
+-- ---- what windows done add up to
+
+compared-append : (us vs : List Visit) → comparedIn (us ++ vs) ≡ comparedIn us + comparedIn vs
+unfolding comparedIn
+compared-append [] vs = omega arith
+compared-append (u ∷ us) vs = omega (arith, compared-append us vs)
+
+positions-append : (us vs : List Visit) → positionsIn (us ++ vs) ≡ positionsIn us ++ positionsIn vs
+unfolding positionsIn
+positions-append [] vs = refl
+positions-append (u ∷ us) vs =
+    by-test (λ t. cond t (u .start ∷ positionsIn (us ++ vs)) (positionsIn (us ++ vs)) ≡ cond t (u .start ∷ positionsIn us) (positionsIn us) ++ positionsIn vs) (u .window .stands)
+    (λ _. ap (λ l. u .start ∷ l) (positions-append us vs)) (λ _. positions-append us vs)
+
+positions-one : (s : ℕ) (v : Window) → positionsIn (record { start = s; window = v } ∷ []) ≡ cond (v .stands) (s ∷ []) []
+unfolding positionsIn
+positions-one s v = refl
+
+compared-one : (s : ℕ) (v : Window) → comparedIn (record { start = s; window = v } ∷ []) ≡ v .compared
+unfolding comparedIn
+compared-one s v = omega arith
+
+-- ---- the loop's invariant
+
+-- the engine is at the state x, with the total and the comparisons so far, and the lent list, which was list₀, as it is now
+pub record Progress (e : Engine) (P T list₀ : List ℕ) (x : State) (total compared : ℕ) (list : List ℕ) : Type 0 where
+  pub sound : Sound (e .steps) P T
+  pub short : length P ≤ 1024
+  pub small : length T ≤ 32768
+  pub carried : Carried P T x
+  pub done : List Visit
+  pub whole : done ++ runFrom (e .steps) P T x ≡ run (e .steps) P T
+  pub counted : total ≡ length (positionsIn done)
+  pub looked : compared ≡ comparedIn done
+  pub stored : list ≡ received list₀ (positionsIn done)
+
+-- before the first window of a find that is not refused
+pub begins : (e : Engine) (P T scratch list : List ℕ) → refusalOf e P T scratch ≡ 0 → (1 ≤ length P → Sound (e .steps) P T) → Progress e P T list (at 0 0) 0 0 list
+unfolding positionsIn comparedIn
+begins e P T scratch list none sound =
+    let limits = within (length P) (length T) (length scratch) (e .entries (length P)) none in
+    record {
+      sound = sound (limits .some);
+      short = limits .short;
+      small = limits .small;
+      carried = carries-none P T 0 (limits .some);
+      done = [];
+      whole = refl;
+      counted = refl;
+      looked = refl;
+      stored = sym (received-none list);
+    }
+
+module _ {e : Engine} {P T list₀ : List ℕ} {s q total compared : ℕ} {list : List ℕ} (p : Progress e P T list₀ (at s q) total compared list) (inside : s + length P ≤ length T) where
+  -- with one window more done
+  more : List Visit
+  more = p .done ++ (record { start = s; window = e .steps P T s q } ∷ [])
+
+  onward : more ++ runFrom (e .steps) P T (e .steps P T s q .next) ≡ run (e .steps) P T
+  unfolding more
+  onward =
+      append-assoc (p .done) (record { start = s; window = e .steps P T s q } ∷ []) (runFrom (e .steps) P T (e .steps P T s q .next))
+      ∙ ap (λ vs. p .done ++ vs) (sym (run-on (p .sound) s q inside (p .carried))) ∙ p .whole
+
+  looked-more : compared + e .steps P T s q .compared ≡ comparedIn more
+  unfolding more
+  looked-more = omega (arith, p .looked, compared-append (p .done) (record { start = s; window = e .steps P T s q } ∷ []), compared-one s (e .steps P T s q))
+
+  positions-more : positionsIn more ≡ positionsIn (p .done) ++ cond (e .steps P T s q .stands) (s ∷ []) []
+  unfolding more
+  positions-more = positions-append (p .done) _ ∙ ap (λ l. positionsIn (p .done) ++ l) (positions-one s (e .steps P T s q))
+
+  stepped : {total′ : ℕ} {list′ : List ℕ} → total′ ≡ length (positionsIn more) → list′ ≡ received list₀ (positionsIn more) → Progress e P T list₀ (e .steps P T s q .next) total′ (compared + e .steps P T s q .compared) list′
+  stepped counted stored =
+      record {
+        sound = p .sound;
+        short = p .short;
+        small = p .small;
+        carried = p .sound .right s q inside (p .carried) .moves .hands;
+        done = more;
+        whole = onward;
+        counted = counted;
+        looked = looked-more;
+        stored = stored;
+      }
+
+  -- a window that reports: the total grows by 1, and the list receives its start
+  pub reported : e .steps P T s q .stands ≡ true → Progress e P T list₀ (e .steps P T s q .next) (total + 1) (compared + e .steps P T s q .compared) (set list total s)
+  reported f =
+      let is : positionsIn more ≡ positionsIn (p .done) ++ s ∷ [] = positions-more ∙ ap (λ t. positionsIn (p .done) ++ cond t (s ∷ []) []) f in
+      stepped (rw is (rw length-append (omega (arith, p .counted)))) (rw (is, p .stored, p .counted) (received-more list₀ (positionsIn (p .done)) s))
+
+  -- a window that does not
+  pub missed : e .steps P T s q .stands ≡ false → Progress e P T list₀ (e .steps P T s q .next) total (compared + e .steps P T s q .compared) list
+  missed f =
+      let is : positionsIn more ≡ positionsIn (p .done) = positions-more ∙ ap (λ t. positionsIn (p .done) ++ cond t (s ∷ []) []) f ∙ append-nil _ in
+      stepped (p .counted ∙ ap length (sym is)) (p .stored ∙ ap (received list₀) (sym is))
+
+  -- what code has found of a window compared first to last: the first k letters are equal, and letter k + 1, if there is one, is not
+  module _ {x : State} {k c : ℕ} (is : e .steps P T s q ≡ firstToLast P T s q x) (reached : k ≡ reach P T s q) where
+    pub hit-up : k ≡ length P → c + q ≡ compared + k → Progress e P T list₀ x (total + 1) c (set list total s)
+    hit-up all sum =
+        let r = reported (rw is (eq-eqb (reach P T s q) (length P) (omega arith))) in
+        subst (λ n. Progress e P T list₀ x (total + 1) n (set list total s)) (omega (arith, looks-all (length P - q) (equalOn P T s q) (omega arith))) (rw is at r)
+
+    pub miss-up : k < length P → c + q ≡ compared + k + 1 → Progress e P T list₀ x total c list
+    miss-up part sum =
+        let r = missed (rw is (ne-eqb (reach P T s q) (length P) (λ f. omega arith))) in
+        subst (λ n. Progress e P T list₀ x total n list) (omega (arith, looks-part (length P - q) (equalOn P T s q) (omega arith))) (rw is at r)
+
+  -- of a window compared last to first: the last k letters are equal, and the one before them, if there is one, is not
+  module _ {x : State} {k c : ℕ} (is : e .steps P T s q ≡ lastToFirst P T s x) (reached : k ≡ equalDown P T s (length P)) where
+    pub hit-down : k ≡ length P → c ≡ compared + k → Progress e P T list₀ x (total + 1) c (set list total s)
+    hit-down all sum =
+        let r = reported (rw is (eq-eqb (equalDown P T s (length P)) (length P) (omega arith))) in
+        subst (λ n. Progress e P T list₀ x (total + 1) n (set list total s)) (omega (arith, looks-all (length P) (equalDown P T s (length P)) (omega arith))) (rw is at r)
+
+    pub miss-down : k < length P → c ≡ compared + k + 1 → Progress e P T list₀ x total c list
+    miss-down part sum =
+        let r = missed (rw is (ne-eqb (equalDown P T s (length P)) (length P) (λ f. omega arith))) in
+        subst (λ n. Progress e P T list₀ x total n list) (omega (arith, looks-part (length P) (equalDown P T s (length P)) (omega arith))) (rw is at r)
+
+-- ---- the counters stay small: a total of at most n + 1, and at most m comparisons for each of n + 1 windows
+
+module _ {e : Engine} {P T list₀ : List ℕ} {x : State} {total compared : ℕ} {list : List ℕ} (p : Progress e P T list₀ x total compared list) where
+  pub total-small : total ≤ 32769
+  total-small =
+      omega
+      (arith, p .counted, p .small, occurrences-few P T, ap length (sym (positions-are (p .sound))), ap (λ vs. length (positionsIn vs)) (p .whole), ap length (positions-append (p .done) (runFrom (e .steps) P T x)), length-append (positionsIn (p .done)) (positionsIn (runFrom (e .steps) P T x)))
+
+  pub compared-small : compared ≤ 33555456
+  compared-small =
+      omega
+      (arith, p .looked, run-few (p .sound), ap comparedIn (p .whole), compared-append (p .done) (runFrom (e .steps) P T x), mul-le-mul {n₁ = suc (length T)} {m₁ = length P} {n₂ = 32769} {m₂ = 1024} (omega (arith, p .small)) (p .short))
+
+  -- the list keeps its length
+  pub same-list : length list ≡ length list₀
+  same-list = ap length (p .stored) ∙ length-received _ _
+
+-- ---- the loop is over: nothing of the run is left
+
+pub record Over (e : Engine) (P T list₀ : List ℕ) (total compared : ℕ) (list : List ℕ) : Type 0 where
+  pub state : State
+  pub progress : Progress e P T list₀ state total compared list
+  pub ended : runFrom (e .steps) P T state ≡ []
+
+-- the next window would pass the text's end
+pub past : {e : Engine} {P T list₀ : List ℕ} {s q total compared : ℕ} {list : List ℕ} → Progress e P T list₀ (at s q) total compared list → length T < s + length P → Over e P T list₀ total compared list
+past {s = s} {q = q} p h = record { state = at s q; progress = p; ended = run-off (p .sound) s q h }
+
+-- the engine has stopped
+pub stopped : {e : Engine} {P T list₀ : List ℕ} {total compared : ℕ} {list : List ℕ} → Progress e P T list₀ stop total compared list → Over e P T list₀ total compared list
+stopped p = record { state = stop; progress = p; ended = run-stop (p .sound) }
+
+-- and the find keeps its promise, if the scratch holds the tables
+pub keeps : {e : Engine} {P T scratch scratch′ list₀ list : List ℕ} {total looked : ℕ} → Over e P T list₀ total looked list → refusalOf e P T scratch ≡ 0
+    → scratch′ ≡ e .tables P ++ drop (e .entries (length P)) scratch
+    → Found e P T scratch list₀ (record { refusal = 0; total = total; comparisons = looked }) scratch′ list
+unfolding compared
+keeps {e} {P} {T} {list₀ = list₀} o none tables =
+    let p = o .progress in
+    let all : p .done ≡ run (e .steps) P T = sym (append-nil _) ∙ ap (λ vs. p .done ++ vs) (sym (o .ended)) ∙ p .whole in
+    let found : positionsIn (p .done) ≡ occurrences P T = ap positionsIn all ∙ positions-are (p .sound) in
+    found-accepted none (p .counted ∙ ap length found) (p .looked ∙ ap comparedIn all) tables (p .stored ∙ ap (received list₀) found)

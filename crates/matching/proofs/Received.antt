@@ -1,0 +1,34 @@
+-- A lent list that receives values one by one, for entries of any type: the law by which one more value is received is `received-more`. Assumes nothing.
+use mathlib.Core.Path.{_≡_, refl, sym, ap, ap₂, _∙_}
+use Prim.Native.Nat.{ℕ, zero, suc, _+_, _-_, _≤_, _<_}
+use native.Mathlib.Omega.{arith}
+use mathlib.Core.List.{List, [], _∷_, _++_, append-nil}
+use lib.ListN.{length, take, drop, set, length-append, length-take, length-drop}
+use lib.Seq.{take-nil}
+use Rattle.matching.specs.Received.{received}
+
+module _ {ℓ} {A : Type ℓ} where
+  -- the rule by the list's and the values' first entries
+  pub received-none : (list : List A) → received list [] ≡ list
+  unfolding received
+  received-none list = ap (λ (l : List A). l ++ list) (take-nil (length list))
+
+  pub received-cons : (y x : A) (list values : List A) → received (y ∷ list) (x ∷ values) ≡ x ∷ received list values
+  unfolding received
+  received-cons y x list values = refl
+
+  pub received-full : (values : List A) → received [] values ≡ []
+  unfolding received
+  received-full [] = refl
+  received-full (x ∷ values) = refl
+
+  -- one value more is set at the place after those received, or nowhere where the list ends before it
+  pub received-more : (list values : List A) (x : A) → set (received list values) (length values) x ≡ received list (values ++ x ∷ [])
+  received-more [] values x = rw (received-full values) (sym (received-full (values ++ x ∷ [])))
+  received-more (y ∷ list) [] x = rw (received-none (y ∷ list)) (sym (received-cons y x list [] ∙ ap (λ (l : List A). x ∷ l) (received-none list)))
+  received-more (y ∷ list) (v ∷ values) x = rw (received-cons y v list values) (ap (λ (l : List A). v ∷ l) (received-more list values x) ∙ sym (received-cons y v list (values ++ x ∷ [])))
+
+  -- the list keeps its length
+  pub length-received : (list values : List A) → length (received list values) ≡ length list
+  unfolding received
+  length-received list values = simp (length-append, length-take, length-drop) (omega arith)

@@ -1,0 +1,25 @@
+-- Case analysis on a test that computes. Assumes nothing.
+use mathlib.Core.Path.{_≡_, refl, sym, ap}
+use Prim.Native.Nat.{ℕ}
+use mathlib.Core.Bool.{Bool, true, false, _&&_, _||_, false≢true}
+use mathlib.Core.List.{List}
+use lib.ListN.{getD}
+
+-- both answers of a test, each with the equation that says so
+pub by-test : (Q : Bool → Type 0) (t : Bool) → (t ≡ true → Q true) → (t ≡ false → Q false) → Q t
+by-test Q true f g = f refl
+by-test Q false f g = g refl
+
+-- both parts of a conjunction that passes
+pub both : (a b : Bool) → a && b ≡ true → (a ≡ true) × (b ≡ true)
+both true b e = (refl, e)
+both false b e = absurd (false≢true e)
+
+-- the second part of a disjunction that passes though its first does not
+pub either : (a b : Bool) → a || b ≡ true → a ≡ false → b ≡ true
+either true b e f = absurd (false≢true (sym f))
+either false b e f = e
+
+-- the same letter at the same place
+pub at-same : (l : List ℕ) {i j : ℕ} → i ≡ j → getD l i 0 ≡ getD l j 0
+at-same l e = ap (λ (x : ℕ). getD l x 0) e

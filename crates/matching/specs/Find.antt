@@ -1,0 +1,44 @@
+-- What every engine promises of its find (document 01, "What a find call takes and leaves" and "What a refused call hands back").
+use mathlib.Core.Path.{_≡_}
+use Prim.Native.Nat.{ℕ}
+use mathlib.Core.Bool.{Bool, cond}
+use mathlib.Core.List.{List, _++_}
+use lib.ListN.{length, drop}
+use lib.Dec.{eqb, ltb}
+use Rattle.matching.specs.declared.Finding.{Finding}
+use Rattle.matching.specs.Occurrences.{occurrences}
+use Rattle.matching.specs.Received.{received}
+use Rattle.matching.specs.Machine.{Steps, run, comparedIn}
+
+-- the refusals 2 to 5 in their order, 0 for none: a pattern of m letters, a text of n, a scratch that has so many entries and needs so many
+unfoldable pub refusal : ℕ → ℕ → ℕ → ℕ → ℕ
+refusal m n has needs = cond (eqb m 0) 2 (cond (ltb 1024 m) 3 (cond (ltb 32768 n) 4 (cond (ltb has needs) 5 0)))
+
+-- what engines differ in
+pub record Engine : Type 0 where
+  -- the scratch entries that a pattern of m letters needs
+  pub entries : ℕ → ℕ
+  -- the tables of a pattern that stand at the scratch's front, by their rules
+  pub tables : List ℕ → List ℕ
+  -- the published steps; the comparisons are read off their run, so an engine states no count of its own
+  pub steps : Steps
+
+-- the comparisons along an engine's steps, for a pattern and a text of any lengths
+unfoldable pub compared : Engine → List ℕ → List ℕ → ℕ
+unfolding comparedIn
+compared e P T = comparedIn (run (e .steps) P T)
+
+-- the refusal of a find by this engine, 0 for none
+abbrev pub refusalOf : Engine → List ℕ → List ℕ → List ℕ → ℕ
+refusalOf e P T scratch = refusal (length P) (length T) (length scratch) (e .entries (length P))
+
+-- whether a find by this engine is not refused
+abbrev pub accepts : Engine → List ℕ → List ℕ → List ℕ → Bool
+accepts e P T scratch = eqb (refusalOf e P T scratch) 0
+
+-- a find by this engine gave r and left scratch′ of the scratch and list′ of the list. Refused: the number and zeros, and all as before.
+-- Otherwise: the full total and the comparisons of its steps; the tables, with the scratch's entries past them kept; and the first occurrences, with the list's entries past them kept
+pub record Found (e : Engine) (P T scratch list : List ℕ) (r : Finding) (scratch′ list′ : List ℕ) : Type 0 where
+  pub answer : r ≡ cond (accepts e P T scratch) (record { refusal = 0; total = length (occurrences P T); comparisons = compared e P T }) (record { refusal = refusalOf e P T scratch; total = 0; comparisons = 0 })
+  pub left : scratch′ ≡ cond (accepts e P T scratch) (e .tables P ++ drop (e .entries (length P)) scratch) scratch
+  pub listed : list′ ≡ cond (accepts e P T scratch) (received list (occurrences P T)) list

@@ -1,0 +1,6 @@
+-- What a reader of this crate's contracts must believe: the matching problem, the lent list, comparing letters, the window machine, and what a find promises.
+pub mod Occurrences
+pub mod Received
+pub mod Letters
+pub mod Machine
+pub mod Find
