@@ -7,7 +7,6 @@ use Rattle.matching.specs.Occurrences.{same}
 use Rattle.shifts.specs.Tables.{tabulate}
 use Rattle.shifts.specs.BadCharacter.{lastIn, sundayTable, horspoolTable}
 use Rattle.shifts.specs.Kmp.{kmpEntry, kmpTable}
-use Rattle.shifts.specs.Moves.{kmpMove}
 
 -- a row: what is asked, and the answer that document 01 gives
 pub data Case : Type 0 where

@@ -1,13 +1,12 @@
 -- What `Found` asks of a refused find, and of one that is not refused; and the limits that hold where a find is not refused. For any engine. Assumes nothing.
-use mathlib.Core.Path.{_≡_, refl, sym, ap, _∙_}
-use Prim.Native.Nat.{ℕ, _≤_, _<_}
+use mathlib.Core.Path.{_≡_, _∙_}
+use Prim.Native.Nat.{ℕ, _≤_}
 use native.Mathlib.Omega.{arith}
-use mathlib.Core.Bool.{Bool, true, false, cond}
+use mathlib.Core.Bool.{true, false, cond}
 use mathlib.Core.List.{List, _++_}
 use lib.ListN.{length, drop}
 use lib.Dec.{eqb, ltb}
 use borrow.Author.Tests.{eq-eqb, ne-eqb, eqb-false, ltb-false}
-use Rattle.matching.specs.declared.Finding.{Finding}
 use Rattle.matching.specs.Occurrences.{occurrences}
 use Rattle.matching.specs.Received.{received}
 use Rattle.matching.specs.Find.{refusal, Engine, compared, refusalOf, Found}

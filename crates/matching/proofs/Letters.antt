@@ -1,17 +1,17 @@
 -- Laws of comparing letters: first to last (`reach`), last to first (`equalDown`), and the looks that either costs. Assumes nothing.
-use mathlib.Core.Path.{_≡_, refl, sym, ap, _∙_}
+use mathlib.Core.Path.{_≡_, refl, sym, _∙_}
 use Prim.Native.Nat.{ℕ, zero, suc, _+_, _-_, _≤_, _<_}
 use native.Mathlib.Omega.{arith}
-use mathlib.Core.Bool.{Bool, true, false, cond, _&&_}
+use mathlib.Core.Bool.{false, cond}
 use mathlib.Core.List.{List, [], _∷_}
 use lib.ListN.{length, getD, drop, length-drop, drop-of-length-le}
 use lib.Seq.{drop-cons, getD-drop}
-use lib.Dec.{eqb, ltb, leb}
+use lib.Dec.{eqb, ltb}
 use borrow.Author.Tests.{eqb-true, eqb-false, eq-eqb, ne-eqb, le-leb, lt-leb, ltb-true, ltb-false, lt-ltb, le-ltb}
 use Rattle.matching.specs.Occurrences.{occursAt}
 use Rattle.matching.specs.Letters.{equalPairs, equalOn, reach, equalDown, comparedDown, looks}
 use Rattle.matching.proofs.Tests.{by-test, at-same}
-use Rattle.matching.proofs.Occurrences.{Stands, stands, occurs}
+use Rattle.matching.proofs.Occurrences.{stands, occurs}
 
 -- ---- pairs at the front of two lists
 
@@ -84,6 +84,13 @@ reach-equal P T s k h l e =
 pub reach-unequal : (P T : List ℕ) (s k : ℕ) → k < length P → s + k < length T → (getD P k 0 ≡ getD T (s + k) 0 → ⊥) → reach P T s k ≡ k
 unfolding equalOn equalPairs
 reach-unequal P T s k h l e = rw (drop-cons P k 0 h, drop-cons T (s + k) 0 l, ne-eqb (getD P k 0) (getD T (s + k) 0) e) (omega arith)
+
+-- the window's first pair
+pub reach-first : (P T : List ℕ) (s : ℕ) → 1 ≤ length P → s < length T → getD P 0 0 ≡ getD T s 0 → reach P T s 0 ≡ reach P T s 1
+reach-first P T s h l e = reach-equal P T s 0 (omega arith) (omega arith) (e ∙ at-same T (omega arith))
+
+pub reach-nothing : (P T : List ℕ) (s : ℕ) → 1 ≤ length P → s < length T → (getD P 0 0 ≡ getD T s 0 → ⊥) → reach P T s 0 ≡ 0
+reach-nothing P T s h l differs = reach-unequal P T s 0 (omega arith) (omega arith) (λ e. differs (e ∙ at-same T (omega arith)))
 
 pub reach-done : (P T : List ℕ) (s k : ℕ) → length P ≤ k → reach P T s k ≡ k
 unfolding equalOn equalPairs

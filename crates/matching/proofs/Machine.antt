@@ -5,13 +5,12 @@ use mathlib.Core.Path.{_≡_, refl, sym, ap, _∙_}
 use Prim.Native.Nat.{ℕ, zero, suc, _+_, _-_, _*_, _≤_, _<_}
 use native.Mathlib.Omega.{arith}
 use native.Mathlib.Nat.{sub-zero, suc-mul}
-use mathlib.Core.Bool.{Bool, true, false, cond}
 use mathlib.Core.List.{List, [], _∷_}
-use lib.ListN.{length}
+use lib.ListN.{length, getD}
 use lib.Dec.{leb}
 use borrow.Author.Tests.{le-leb, lt-leb, leb-true, leb-false}
 use Rattle.matching.specs.Occurrences.{occursAt, occursFrom, occurrences}
-use Rattle.matching.specs.Letters.{equalOn, reach, equalDown}
+use Rattle.matching.specs.Letters.{equalOn, equalDown}
 use Rattle.matching.specs.Machine.{State, stop, at, Window, Steps, Visit, windows, runFrom, run, comparedIn, positionsIn, firstToLast, lastToFirst}
 use Rattle.matching.proofs.Tests.{by-test}
 use Rattle.matching.proofs.Occurrences.{Stands, no-occurrence, rest, rest-step, rest-skip, rest-none, rest-past}
@@ -68,11 +67,11 @@ module _ {P T : List ℕ} {s : ℕ} {x : State} (inside : s + length P ≤ lengt
         moves = moves;
       }
 
-  pub right-down : 1 ≤ length P → Right P T s (lastToFirst P T s x)
-  right-down some =
+  pub right-down : 1 ≤ length P → (k : ℕ) → k ≤ length P → ((i : ℕ) → k ≤ i → i < length P → getD P i 0 ≡ getD T (s + i) 0) → Right P T s (lastToFirst P T s k x)
+  right-down some k k≤ above =
       record {
-        reports = down-reports P T s (length P) inside some (omega arith) (λ i h l. absurd (omega arith));
-        few = looks-le (length P) (equalDown P T s (length P)) (down-le P T s (length P));
+        reports = down-reports P T s k inside some k≤ above;
+        few = omega (arith, looks-le k (equalDown P T s k) (down-le P T s k));
         moves = moves;
       }
 

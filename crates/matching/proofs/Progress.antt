@@ -1,24 +1,23 @@
 -- An engine's loop, for any engine: what is done and the rest of the run from here are the whole run. The laws: it begins, a window reports or misses,
 -- it is over, and then the find keeps its promise; the counters stay small on the way. An engine's own proof is left with the arithmetic of its moves. Assumes nothing.
 use mathlib.Core.Path.{_≡_, refl, sym, ap, subst, _∙_}
-use Prim.Native.Nat.{ℕ, zero, suc, _+_, _-_, _*_, _≤_, _<_}
+use Prim.Native.Nat.{ℕ, suc, _+_, _-_, _≤_, _<_}
 use native.Mathlib.Omega.{arith}
 use native.Mathlib.Nat.{mul-le-mul}
-use mathlib.Core.Bool.{Bool, true, false, cond}
+use mathlib.Core.Bool.{true, false, cond}
 use mathlib.Core.List.{List, [], _∷_, _++_, append-nil, append-assoc}
 use lib.ListN.{length, set, drop, length-append}
-use lib.Dec.{eqb}
 use borrow.Author.Tests.{eq-eqb, ne-eqb}
 use Rattle.matching.specs.Occurrences.{occurrences}
 use Rattle.matching.specs.Received.{received}
-use Rattle.matching.specs.Letters.{equalOn, reach, equalDown, looks}
-use Rattle.matching.specs.Machine.{State, stop, at, Window, Steps, Visit, runFrom, run, comparedIn, positionsIn, firstToLast, lastToFirst}
+use Rattle.matching.specs.Letters.{equalOn, reach, equalDown}
+use Rattle.matching.specs.Machine.{State, stop, at, Window, Visit, runFrom, run, comparedIn, positionsIn, firstToLast, lastToFirst}
 use Rattle.matching.specs.Find.{Engine, compared, refusalOf, Found}
 use Rattle.matching.proofs.Tests.{by-test}
 use Rattle.matching.proofs.Occurrences.{occurrences-few}
 use Rattle.matching.proofs.Received.{received-none, received-more, length-received}
-use Rattle.matching.proofs.Letters.{reach-le, down-le, looks-part, looks-all}
-use Rattle.matching.proofs.Machine.{Carries, Carried, carries-none, Sound, run-on, run-off, run-stop, positions-are, run-few}
+use Rattle.matching.proofs.Letters.{looks-part, looks-all}
+use Rattle.matching.proofs.Machine.{Carried, carries-none, Sound, run-on, run-off, run-stop, positions-are, run-few}
 use Rattle.matching.proofs.Find.{within, found-accepted}
 
 -- ---- what windows done add up to
@@ -131,17 +130,17 @@ module _ {e : Engine} {P T list₀ : List ℕ} {s q total compared : ℕ} {list 
         let r = missed (rw is (ne-eqb (reach P T s q) (length P) (λ f. omega arith))) in
         subst (λ n. Progress e P T list₀ x total n list) (omega (arith, looks-part (length P - q) (equalOn P T s q) (omega arith))) (rw is at r)
 
-  -- of a window compared last to first: the last k letters are equal, and the one before them, if there is one, is not
-  module _ {x : State} {k c : ℕ} (is : e .steps P T s q ≡ lastToFirst P T s x) (reached : k ≡ equalDown P T s (length P)) where
-    pub hit-down : k ≡ length P → c ≡ compared + k → Progress e P T list₀ x (total + 1) c (set list total s)
+  -- of a window compared last to first from letter `count` down: k letters are equal, and the one before them, if there is one, is not
+  module _ {x : State} {k c : ℕ} (count : ℕ) (is : e .steps P T s q ≡ lastToFirst P T s count x) (reached : k ≡ equalDown P T s count) where
+    pub hit-down : k ≡ count → c ≡ compared + k → Progress e P T list₀ x (total + 1) c (set list total s)
     hit-down all sum =
-        let r = reported (rw is (eq-eqb (equalDown P T s (length P)) (length P) (omega arith))) in
-        subst (λ n. Progress e P T list₀ x (total + 1) n (set list total s)) (omega (arith, looks-all (length P) (equalDown P T s (length P)) (omega arith))) (rw is at r)
+        let r = reported (rw is (eq-eqb (equalDown P T s count) count (omega arith))) in
+        subst (λ n. Progress e P T list₀ x (total + 1) n (set list total s)) (omega (arith, looks-all count (equalDown P T s count) (omega arith))) (rw is at r)
 
-    pub miss-down : k < length P → c ≡ compared + k + 1 → Progress e P T list₀ x total c list
+    pub miss-down : k < count → c ≡ compared + k + 1 → Progress e P T list₀ x total c list
     miss-down part sum =
-        let r = missed (rw is (ne-eqb (equalDown P T s (length P)) (length P) (λ f. omega arith))) in
-        subst (λ n. Progress e P T list₀ x total n list) (omega (arith, looks-part (length P) (equalDown P T s (length P)) (omega arith))) (rw is at r)
+        let r = missed (rw is (ne-eqb (equalDown P T s count) count (λ f. omega arith))) in
+        subst (λ n. Progress e P T list₀ x total n list) (omega (arith, looks-part count (equalDown P T s count) (omega arith))) (rw is at r)
 
 -- ---- the counters stay small: a total of at most n + 1, and at most m comparisons for each of n + 1 windows
 

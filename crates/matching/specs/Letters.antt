@@ -1,6 +1,6 @@
 -- Comparing the letters of a pattern P with those of a text T in the window that starts at position s: pair by pair, up to the first unequal pair
 -- (document 01, "Definitions and steps": a window's comparing ends at its first unequal pair; each look at one pair counts 1).
-use Prim.Native.Nat.{ℕ, zero, suc, _+_, _-_}
+use Prim.Native.Nat.{ℕ, zero, suc, _+_}
 use mathlib.Core.Bool.{cond, _&&_}
 use mathlib.Core.List.{List, [], _∷_}
 use lib.ListN.{length, getD, drop}

@@ -60,6 +60,6 @@ positionsIn (v ∷ vs) = cond (v .window .stands) (v .start ∷ positionsIn vs) 
 abbrev pub firstToLast : List ℕ → List ℕ → ℕ → ℕ → State → Window
 firstToLast P T s q next = record { compared = looks (length P - q) (equalOn P T s q); stands = eqb (reach P T s q) (length P); next = next }
 
--- last to first
-abbrev pub lastToFirst : List ℕ → List ℕ → ℕ → State → Window
-lastToFirst P T s next = record { compared = looks (length P) (equalDown P T s (length P)); stands = eqb (equalDown P T s (length P)) (length P); next = next }
+-- last to first, from letter k down, where the letters after letter k are known to be equal: the pattern stands where all k letters are equal
+abbrev pub lastToFirst : List ℕ → List ℕ → ℕ → ℕ → State → Window
+lastToFirst P T s k next = record { compared = looks k (equalDown P T s k); stands = eqb (equalDown P T s k) k; next = next }

@@ -1,18 +1,18 @@
 -- Laws of the Sunday and Horspool entries, from their rule alone: the values they can have, and that no occurrence has a text letter under a
 -- position of the pattern that comes after the letter's last one. Assumes nothing.
-use mathlib.Core.Path.{_≡_, refl, sym, ap, _∙_}
-use Prim.Native.Nat.{ℕ, zero, suc, _+_, _-_, _≤_, _<_}
+use mathlib.Core.Path.{_≡_, refl, sym, _∙_}
+use Prim.Native.Nat.{ℕ, suc, _+_, _-_, _≤_, _<_}
 use native.Mathlib.Omega.{arith}
 use mathlib.Core.List.{List}
-use mathlib.Core.Bool.{Bool, true, false, cond, true≢false}
+use mathlib.Core.Bool.{cond, true≢false}
 use lib.ListN.{length, getD}
 use lib.Dec.{eqb}
 use borrow.Author.Tests.{eq-eqb, eqb-true}
-use Rattle.matching.proofs.Tests.{by-test, at-same}
+use Rattle.matching.proofs.Tests.{at-same}
 use Rattle.matching.proofs.Occurrences.{Stands}
 use Rattle.shifts.specs.Tables.{largest}
 use Rattle.shifts.specs.BadCharacter.{lastIn, sundayEntry, horspoolEntry}
-use Rattle.shifts.proofs.Tables.{largest-le, largest-none, largest-holds}
+use Rattle.shifts.proofs.Tables.{largest-le, largest-none, largest-holds, Entries, Reads}
 
 pub lastIn-le : (P : List ℕ) (n c : ℕ) → lastIn P n c ≤ n
 unfolding lastIn
@@ -54,3 +54,11 @@ horspoolEntry-pos P c h = omega (arith, lastIn-le P (length P - 1) c)
 
 pub horspoolEntry-le : (P : List ℕ) (c : ℕ) → horspoolEntry P c ≤ length P
 horspoolEntry-le P c = omega arith
+
+-- ---- the entries as engines read them
+
+pub sunday-reads : (P : List ℕ) {table : List ℕ} (c : ℕ) → Entries 256 (sundayEntry P) table → c < 256 → Reads (getD table c 0) (sundayEntry P c) 1 (length P + 1)
+sunday-reads P c t h = let e = t .entry c h in record { is = e; least = omega (arith, sundayEntry-pos P c); most = omega (arith, sundayEntry-le P c) }
+
+pub horspool-reads : (P : List ℕ) {table : List ℕ} (c : ℕ) → 1 ≤ length P → Entries 256 (horspoolEntry P) table → c < 256 → Reads (getD table c 0) (horspoolEntry P c) 1 (length P)
+horspool-reads P c some t h = let e = t .entry c h in record { is = e; least = omega (arith, horspoolEntry-pos P c some); most = omega (arith, horspoolEntry-le P c) }

@@ -1,17 +1,18 @@
 -- Laws of the double window's entries, from their rule alone. Assumes nothing.
-use mathlib.Core.Path.{_≡_, refl, sym, ap, _∙_}
-use Prim.Native.Nat.{ℕ, zero, suc, _+_, _-_, _*_, _≤_, _<_}
+use mathlib.Core.Path.{_≡_, refl, sym, ap, ap₂, _∙_}
+use Prim.Native.Nat.{ℕ, suc, _+_, _-_, _*_, _/_, _%_, _≤_, _<_}
 use native.Mathlib.Omega.{arith}
 use mathlib.Core.List.{List}
-use mathlib.Core.Bool.{Bool, true, false, cond}
+use mathlib.Core.Bool.{cond}
 use lib.ListN.{length, getD}
 use lib.Dec.{eqb, ltb}
-use borrow.Author.Tests.{eqb-true, eqb-false, ne-eqb, eq-eqb, ltb-true, ltb-false}
-use Rattle.matching.proofs.Tests.{by-test}
+use borrow.Author.Tests.{eqb-true, ne-eqb, eq-eqb, ltb-true, ltb-false}
+use Rattle.matching.proofs.Tests.{by-test, at-same}
 use Rattle.matching.proofs.Occurrences.{Stands}
-use Rattle.shifts.specs.BadCharacter.{lastIn}
+use Rattle.shifts.specs.BadCharacter.{lastIn, horspoolEntry}
 use Rattle.shifts.specs.DoubleWindow.{lastOf, endEntry, doubleEntry}
-use Rattle.shifts.proofs.BadCharacter.{lastIn-le, bad-character}
+use Rattle.shifts.proofs.Tables.{EntriesFrom}
+use Rattle.shifts.proofs.BadCharacter.{lastIn-le, lastIn-more, bad-character}
 
 -- ---- the rules in one formula
 
@@ -40,6 +41,16 @@ doubleEntry-out P u v h =
     (λ _.
     rw (eq-eqb (lastOf P u) 0 h)
     (by-test (λ t. cond t (2 * length P) (2 * length P - lastOf P v) ≡ 2 * length P - lastOf P v) (eqb (lastOf P v) 0) (λ e. omega (arith, eqb-true (lastOf P v) 0 e)) (λ _. refl)))
+
+-- by u alone, as an engine finds it from Horspool's entries: 0 where u is the last letter, else Horspool's entry of u
+last-letter : (P : List ℕ) (u : ℕ) → 1 ≤ length P → lastOf P u ≡ cond (eqb (getD P (length P - 1) 0) u) (length P) (lastIn P (length P - 1) u)
+last-letter P u h = let e : suc (length P - 1) ≡ length P = omega arith in ap (λ (n : ℕ). lastIn P n u) (sym e) ∙ lastIn-more P (length P - 1) u ∙ ap (λ (n : ℕ). cond (eqb (getD P (length P - 1) 0) u) n (lastIn P (length P - 1) u)) e
+
+pub endEntry-last : (P : List ℕ) (u : ℕ) → 1 ≤ length P → getD P (length P - 1) 0 ≡ u → endEntry P u ≡ 0
+endEntry-last P u h e = let l : lastOf P u ≡ length P = last-letter P u h ∙ rw (eq-eqb (getD P (length P - 1) 0) u e) in omega (arith, endEntry-is P u)
+
+pub endEntry-other : (P : List ℕ) (u : ℕ) → 1 ≤ length P → (getD P (length P - 1) 0 ≡ u → ⊥) → endEntry P u ≡ horspoolEntry P u
+endEntry-other P u h e = let l : lastOf P u ≡ lastIn P (length P - 1) u = last-letter P u h ∙ rw (ne-eqb (getD P (length P - 1) 0) u e) in omega (arith, endEntry-is P u)
 
 pub endEntry-le : (P : List ℕ) (u : ℕ) → endEntry P u ≤ length P
 endEntry-le P u = omega (arith, endEntry-is P u)
@@ -82,3 +93,27 @@ module _ (P T : List ℕ) (s k : ℕ) (after : s < k) (st : Stands P T k) where
       by-test (λ _. ⊥) (ltb k (s + length P))
       (λ b. let l : k < s + length P = ltb-true k (s + length P) b in bad-character P T (length P) (s + (length P - 1)) k (omega arith) (omega arith) (omega arith) (omega arith) st)
       (λ b. let l : s + length P ≤ k = ltb-false k (s + length P) b in bad-character P T (length P) (s + (2 * length P - 1)) k (omega arith) (omega arith) (omega arith) (omega arith) st))
+
+-- ---- and where the pattern stands at s, the entry is 0
+
+module _ (P T : List ℕ) (s : ℕ) (some : 1 ≤ length P) (st : Stands P T s) where
+  last-there : lastOf P (getD T (s + (length P - 1)) 0) ≡ length P
+  last-there =
+      let u : ℕ = getD T (s + (length P - 1)) 0 in
+      by-test (λ _. lastOf P u ≡ length P) (ltb (lastOf P u) (length P))
+      (λ e. absurd (bad-character P T (length P) (s + (length P - 1)) s (omega arith) (omega arith) (omega arith) (omega (arith, ltb-true (lastOf P u) (length P) e)) st))
+      (λ e. omega (arith, ltb-false (lastOf P u) (length P) e, lastIn-le P (length P) u))
+
+  pub endEntry-stands : endEntry P (getD T (s + (length P - 1)) 0) ≡ 0
+  endEntry-stands = omega (arith, endEntry-is P (getD T (s + (length P - 1)) 0), last-there)
+
+  pub doubleEntry-stands : (v : ℕ) → doubleEntry P (getD T (s + (length P - 1)) 0) v ≡ 0
+  doubleEntry-stands v = omega (arith, doubleEntry-in P (getD T (s + (length P - 1)) 0) v (omega (arith, last-there)), last-there)
+
+-- ---- the entries as they stand in a table, that of (u, v) at 256 u + v
+
+pub doubleEntry-at : (P : List ℕ) (u v : ℕ) → v < 256 → doubleEntry P ((256 * u + v) / 256) ((256 * u + v) % 256) ≡ doubleEntry P u v
+doubleEntry-at P u v h = ap₂ (doubleEntry P) (omega arith) (omega arith)
+
+pub double-reads : (P : List ℕ) {table : List ℕ} (a u v : ℕ) → EntriesFrom a 65536 (λ i. doubleEntry P (i / 256) (i % 256)) table → u < 256 → v < 256 → getD table (a + 256 * u + v) 0 ≡ doubleEntry P u v
+double-reads P {table} a u v t h l = at-same table (omega arith) ∙ t .entry (256 * u + v) (omega arith) ∙ doubleEntry-at P u v l

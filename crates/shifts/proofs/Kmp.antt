@@ -1,9 +1,9 @@
 -- The KMP entries, from their rule alone: what the rule says letter by letter (`Entry`), that it fixes the entry, and how each entry follows from those
 -- before it, as the table maker finds them. Assumes nothing.
-use mathlib.Core.Path.{_≡_, refl, sym, ap, _∙_}
+use mathlib.Core.Path.{_≡_, sym, _∙_}
 use Prim.Native.Nat.{ℕ, zero, suc, _+_, _-_, _≤_, _<_}
 use native.Mathlib.Omega.{arith}
-use mathlib.Core.Bool.{Bool, true, false, true≢false}
+use mathlib.Core.Bool.{true≢false}
 use mathlib.Core.List.{List}
 use lib.ListN.{length, getD}
 use lib.Dec.{eqb, ltb}
@@ -11,7 +11,7 @@ use borrow.Author.Tests.{eqb-true, eqb-false, ltb-true, ltb-false}
 use Rattle.matching.proofs.Tests.{by-test, at-same}
 use Rattle.shifts.specs.Tables.{largest}
 use Rattle.shifts.specs.Kmp.{strong, kmpEntry}
-use Rattle.shifts.proofs.Tables.{largest-le, largest-none, largest-holds, largest-is}
+use Rattle.shifts.proofs.Tables.{largest-le, largest-none, largest-holds, largest-is, Entries, Reads}
 use Rattle.shifts.proofs.Borders.{Border, border-zero, border-trans, border-nested, border-more, border-less, border-letter, strong-border, strong-differs, border-strong}
 
 -- ---- the rule letter by letter, for b = b[q + 1]
@@ -52,6 +52,10 @@ kmpEntry-last P h =
     by-test (λ _. 1 ≤ kmpEntry P (length P)) (ltb 0 (kmpEntry P (length P)))
     (λ e. ltb-true 0 (kmpEntry P (length P)) e)
     (λ e. absurd (kmpEntry-rule P (length P) (omega arith) .longest 0 (ltb-false 0 (kmpEntry P (length P)) e) h (border-zero P (length P)) (λ s _. omega arith)))
+
+-- an entry as an engine reads it
+pub kmp-reads : (P : List ℕ) {table : List ℕ} (q : ℕ) → Entries (length P + 1) (kmpEntry P) table → q ≤ length P → Reads (getD table q 0) (kmpEntry P q) 0 q
+kmp-reads P q t h = let e = t .entry q (omega arith) in record { is = e; least = omega arith; most = omega (arith, kmpEntry-le P q) }
 
 -- ---- how the maker finds an entry
 

@@ -1,19 +1,18 @@
 -- What engines cite of the tables: a move by a table's rule goes on, passes over no occurrence, and carries letters that are equal (`Moves`, of the window
 -- machine). All of it is shown from the rules alone, never from how a table is filled. Assumes nothing.
-use mathlib.Core.Path.{_≡_, refl, sym, ap, _∙_}
-use Prim.Native.Nat.{ℕ, zero, suc, _+_, _-_, _≤_, _<_}
+use mathlib.Core.Path.{_≡_, sym, ap, ap₂, _∙_}
+use Prim.Native.Nat.{ℕ, suc, _+_, _-_, _≤_, _<_}
 use native.Mathlib.Omega.{arith}
 use mathlib.Core.List.{List}
-use mathlib.Core.Bool.{Bool, true, false, cond}
 use lib.ListN.{length, getD}
 use lib.Dec.{ltb}
 use borrow.Author.Tests.{lt-ltb, le-ltb, ltb-true, ltb-false}
-use Rattle.matching.specs.Machine.{State, stop, at}
+use Rattle.matching.specs.Machine.{stop, at}
 use Rattle.matching.proofs.Tests.{by-test, at-same}
 use Rattle.matching.proofs.Occurrences.{Stands}
 use Rattle.matching.proofs.Letters.{Meets}
-use Rattle.matching.proofs.Machine.{Ahead, Before, Carries, Carried, carries-none, Moves}
-use Rattle.shifts.specs.BadCharacter.{lastIn, sundayEntry, horspoolEntry}
+use Rattle.matching.proofs.Machine.{carries-none, Moves}
+use Rattle.shifts.specs.BadCharacter.{sundayEntry, horspoolEntry}
 use Rattle.shifts.specs.Kmp.{kmpEntry}
 use Rattle.shifts.specs.Moves.{horspoolMove, sundayMove, kmpMove}
 use Rattle.shifts.proofs.BadCharacter.{lastIn-le, bad-character, sundayEntry-pos, horspoolEntry-pos}
@@ -32,6 +31,11 @@ horspool-moves P T s h =
       hands = carries-none P T (s + horspoolEntry P (getD T p 0)) h;
     }
 
+-- as code makes it: by a number d that is the entry
+pub horspool-next : (P T : List ℕ) (s d : ℕ) → d ≡ horspoolEntry P (getD T (s + (length P - 1)) 0) → horspoolMove P T s ≡ at (s + d) 0
+unfolding horspoolMove
+horspool-next P T s d e = ap (λ (x : ℕ). at (s + x) 0) (sym e)
+
 -- ---- Sunday
 
 -- a letter follows the window: by its entry; none does: stop
@@ -42,6 +46,9 @@ sunday-on P T s h = rw (lt-ltb (s + length P) (length T) h)
 pub sunday-stop : (P T : List ℕ) (s : ℕ) → length T ≤ s + length P → sundayMove P T s ≡ stop
 unfolding sundayMove
 sunday-stop P T s h = rw (le-ltb (s + length P) (length T) h)
+
+pub sunday-next : (P T : List ℕ) (s d : ℕ) → s + length P < length T → d ≡ sundayEntry P (getD T (s + length P) 0) → sundayMove P T s ≡ at (s + d) 0
+sunday-next P T s d h e = sunday-on P T s h ∙ ap (λ (x : ℕ). at (s + x) 0) (sym e)
 
 pub sunday-moves : (P T : List ℕ) (s : ℕ) → 1 ≤ length P → Moves P T s (sundayMove P T s)
 sunday-moves P T s h =
@@ -85,3 +92,7 @@ module _ (P T : List ℕ) (s r : ℕ) (r≤ : r ≤ length P) (meets : Meets P T
         skips = kmp-safe;
         hands = record { part = omega (arith, kmpEntry-le P r); meets = kmp-meets };
       }
+
+pub kmp-next : (P : List ℕ) (s r b s′ q′ : ℕ) → b ≡ kmpEntry P r → s′ + b ≡ s + suc r → q′ ≡ b - 1 → kmpMove P s r ≡ at s′ q′
+unfolding kmpMove
+kmp-next P s r b s′ q′ e f g = ap₂ at (omega arith) (omega arith)

@@ -2,11 +2,11 @@
 use mathlib.Core.Path.{_≡_, refl, sym, ap, _∙_}
 use Prim.Native.Nat.{ℕ, zero, suc, _+_, _-_, _≤_, _<_}
 use native.Mathlib.Omega.{arith}
-use mathlib.Core.List.{List, [], _∷_, _++_, append-assoc}
+use mathlib.Core.List.{List, [], _++_, append-assoc, append-nil}
 use mathlib.Core.Bool.{Bool, true, false, cond, _||_, true≢false}
-use lib.ListN.{length, getD, take, drop, set, take-append-drop, length-append, length-drop, length-set, List·getD-append}
-use lib.Seq.{length-take-le, getD-take, getD-append-add, ext-getD, getD-set-same, getD-set-other, drop-set-lt, drop-drop, drop-at}
-use borrow.Rule.Slice.PartMut.{putMid}
+use lib.ListN.{length, getD, take, drop, set, take-append-drop, length-append, length-drop, length-set, drop-of-length-le, List·getD-append}
+use lib.Seq.{length-take-le, getD-take, getD-append-add, ext-getD, getD-set-same, getD-set-other, drop-set-lt, drop-drop, drop-at, take-at, take-all}
+use borrow.Rule.Slice.PartMut.{putMid, midOf}
 use lib.Dec.{eqb, ltb}
 use borrow.Author.Tests.{eqb-true, eqb-false, ltb-true, ltb-false, le-ltb, lt-ltb}
 use Rattle.matching.proofs.Tests.{by-test, at-same}
@@ -192,10 +192,6 @@ module _ (most n : ℕ) (rule : ℕ → ℕ) (table : List ℕ) where
   pub made-by : n ≤ length table → most ≤ 65535 → made most (tabulate n rule) table ≡ tabulate n rule ++ drop n table
   made-by h k = made-is most (tabulate n rule) table (omega (arith, length-tabulate n rule)) k ∙ ap (λ i. tabulate n rule ++ drop i table) (length-tabulate n rule)
 
-  -- what an engine reads: each entry by its rule, and as many entries as before
-  pub made-at : n ≤ length table → most ≤ 65535 → (i : ℕ) → i < n → getD (made most (tabulate n rule) table) i 0 ≡ rule i
-  made-at h k i l = ap (λ (t : List ℕ). getD t i 0) (made-by h k) ∙ tabulate-at n rule (drop n table) i l
-
   pub length-made : length (made most (tabulate n rule) table) ≡ length table
   unfolding made
   length-made =
@@ -207,3 +203,67 @@ module _ (most n : ℕ) (rule : ℕ → ℕ) (table : List ℕ) where
       neither : (a b : Bool) → a || b ≡ false → a ≡ false
       neither true b e = absurd (true≢false e)
       neither false b e = refl
+
+-- ---- what an engine knows of a table at its scratch's front: each entry by its rule
+
+pub record Entries (n : ℕ) (rule : ℕ → ℕ) (table : List ℕ) : Type 0 where
+  pub room : n ≤ length table
+  pub entry : (i : ℕ) → i < n → getD table i 0 ≡ rule i
+
+pub made-entries : (most n : ℕ) (rule : ℕ → ℕ) (table : List ℕ) → n ≤ length table → most ≤ 65535 → {table′ : List ℕ} → table′ ≡ made most (tabulate n rule) table → Entries n rule table′
+made-entries most n rule table h k e =
+    record {
+      room = omega (arith, ap length e, length-made most n rule table);
+      entry = λ i l. ap (λ (t : List ℕ). getD t i 0) (e ∙ made-by most n rule table h k) ∙ tabulate-at n rule (drop n table) i l;
+    }
+
+-- an entry as code reads it: by its rule, and within bounds
+pub record Reads (entry rule low high : ℕ) : Type 0 where
+  pub is : entry ≡ rule
+  pub least : low ≤ entry
+  pub most : entry ≤ high
+
+-- ---- two tables in one scratch: the first at the front, the second in the part from there on
+
+-- what an engine knows of the second
+pub record EntriesFrom (a n : ℕ) (rule : ℕ → ℕ) (table : List ℕ) : Type 0 where
+  pub room : a + n ≤ length table
+  pub entry : (i : ℕ) → i < n → getD table (a + i) 0 ≡ rule i
+
+module _ (a b : ℕ) (f g : ℕ → ℕ) (rest : List ℕ) where
+  both-grouped : (tabulate a f ++ tabulate b g) ++ rest ≡ tabulate a f ++ (tabulate b g ++ rest)
+  both-grouped = append-assoc (tabulate a f) (tabulate b g) rest
+
+  pub first-entries : {table : List ℕ} → table ≡ (tabulate a f ++ tabulate b g) ++ rest → Entries a f table
+  first-entries e =
+      let e′ = e ∙ both-grouped in
+      record {
+        room = omega (arith, ap length e′, length-append (tabulate a f) (tabulate b g ++ rest), length-tabulate a f);
+        entry = λ i h. ap (λ (t : List ℕ). getD t i 0) e′ ∙ tabulate-at a f (tabulate b g ++ rest) i h;
+      }
+
+  pub second-entries : {table : List ℕ} → table ≡ (tabulate a f ++ tabulate b g) ++ rest → EntriesFrom a b g table
+  second-entries {table} e =
+      let e′ = e ∙ both-grouped in
+      let n : length (tabulate a f) ≡ a = length-tabulate a f in
+      record {
+        room = omega (arith, ap length e′, length-append (tabulate a f) (tabulate b g ++ rest), length-append (tabulate b g) rest, length-tabulate b g);
+        entry = λ i h.
+            ap (λ (t : List ℕ). getD t (a + i) 0) e′ ∙ ap (λ (k : ℕ). getD (tabulate a f ++ (tabulate b g ++ rest)) (k + i) 0) (sym n)
+            ∙ getD-append-add (tabulate a f) (tabulate b g ++ rest) i 0 ∙ tabulate-at b g rest i h;
+      }
+
+-- the second maker is lent the part from a on of a scratch whose front the first maker has made
+pub made-part : (most₁ most₂ a b : ℕ) (f g : ℕ → ℕ) (table : List ℕ) {table₁ part : List ℕ} → a + b ≤ length table → most₁ ≤ 65535 → most₂ ≤ 65535
+    → table₁ ≡ made most₁ (tabulate a f) table → part ≡ made most₂ (tabulate b g) (midOf a (length table₁ - a) table₁)
+    → putMid a (length table₁ - a) table₁ part ≡ (tabulate a f ++ tabulate b g) ++ drop (a + b) table
+made-part most₁ most₂ a b f g table {table₁} {part} room small₁ small₂ e₁ e₂ =
+    let is : table₁ ≡ tabulate a f ++ drop a table = e₁ ∙ made-by most₁ a f table (omega arith) small₁ in
+    let size : length (tabulate a f) ≡ a = length-tabulate a f in
+    let front : take a table₁ ≡ tabulate a f = ap (take a) is ∙ take-at (tabulate a f) (drop a table) a size in
+    let back : drop a table₁ ≡ drop a table = ap (drop a) is ∙ drop-at (tabulate a f) (drop a table) a size in
+    let whole : midOf a (length table₁ - a) table₁ ≡ drop a table = take-all (length table₁ - a) (drop a table₁) (omega (arith, length-drop a table₁)) ∙ back in
+    let second : part ≡ tabulate b g ++ drop (a + b) table =
+    e₂ ∙ ap (made most₂ (tabulate b g)) whole ∙ made-by most₂ b g (drop a table) (omega (arith, length-drop a table)) small₂ ∙ ap (λ (l : List ℕ). tabulate b g ++ l) (drop-drop b a table) in
+    let none : drop (length table₁ - a) (drop a table₁) ≡ [] = drop-of-length-le (drop a table₁) {i = length table₁ - a} (omega (arith, length-drop a table₁)) in
+    rw (front, none, second) (rw append-nil (sym (append-assoc (tabulate a f) (tabulate b g) (drop (a + b) table))))

@@ -1,5 +1,5 @@
 -- The double window's entries (document 01, "Double window"; source document 004): u is the text letter under the window's end, v the one m places on.
-use Prim.Native.Nat.{ℕ, _+_, _-_, _*_, _/_, _%_}
+use Prim.Native.Nat.{ℕ, _-_, _*_, _/_, _%_}
 use mathlib.Core.Bool.{cond}
 use mathlib.Core.List.{List}
 use lib.ListN.{length}

@@ -4,7 +4,7 @@
 ghost use mathlib.Core.Path.{_≡_};
 ghost use mathlib.Core.List.{_++_};
 ghost use Prim.Native.Nat.{_+_, _*_, _≤_};
-ghost use lib.ListN.{length, drop, take, replicate};
+ghost use lib.ListN.{length, drop, replicate};
 ghost use Rattle.shifts.specs.BadCharacter.{lastTable, sundayMade, horspoolMade};
 ghost use Rattle.shifts.specs.Kmp.{kmpMade};
 ghost use Rattle.shifts.specs.DoubleWindow.{doubleMade};

@@ -1,28 +1,23 @@
 -- `shifts::double_window_table` meets its contract. The loop's invariant: the rows before u follow the rule, and `far` holds the moves by v. Assumes nothing.
-use borrow.Author.Needs.{needs}
-use mathlib.Core.Path.{_≡_, refl, sym, ap, ap₂, subst, _∙_}
+use mathlib.Core.Path.{_≡_, refl, sym, ap, subst, _∙_}
 use mathlib.Core.Logic.{⊎-elim}
-use Prim.Native.Nat.{ℕ, suc, _+_, _-_, _*_, _/_, _%_, _≤_, _<_}
+use Prim.Native.Nat.{ℕ, _+_, _-_, _*_, _/_, _%_, _≤_, _<_}
 use native.Mathlib.Omega.{arith}
 use mathlib.Core.List.{List, _++_}
-use lib.ListN.{length, getD, take, drop, replicate, length-append, length-drop, length-replicate, getD-replicate}
-use lib.Seq.{length-take-le}
+use lib.ListN.{length, getD, drop, replicate, length-append, length-drop, length-replicate, getD-replicate}
 use borrow.Rule.Slice.PartMut.{putMid, midOf, mid-len}
-use Rattle.shifts.specs.Tables.{tabulate, made}
-use Rattle.shifts.specs.BadCharacter.{lastIn, lastTable}
-use Rattle.shifts.specs.DoubleWindow.{lastOf, doubleEntry, doubleMade}
+use Rattle.shifts.specs.Tables.{tabulate}
+use Rattle.shifts.specs.BadCharacter.{lastTable}
+use Rattle.shifts.specs.DoubleWindow.{lastOf, doubleEntry}
 use Rattle.shifts.proofs.Tables.{length-tabulate, tabulate-at, Ruled, ruled-is, ruled-none, ruled-part, made-short-by, made-long-by, made-by}
 use Rattle.shifts.proofs.BadCharacter.{lastIn-le}
-use Rattle.shifts.proofs.DoubleWindow.{doubleEntry-in, doubleEntry-out}
+use Rattle.shifts.proofs.DoubleWindow.{doubleEntry-in, doubleEntry-out, doubleEntry-at}
 use Rattle.shifts.proofs.double_window_table.Statement.{statement}
 use Rattle.shifts.proofs.double_window_table.Tie as tie
 
 -- the entry of (u, v) at 256 u + v
 abbrev entryAt : List ℕ → ℕ → ℕ
 entryAt P i = doubleEntry P (i / 256) (i % 256)
-
-row-entry : (P : List ℕ) (u v : ℕ) → v < 256 → doubleEntry P u v ≡ entryAt P (256 * u + v)
-row-entry P u v h = ap₂ (doubleEntry P) (omega arith) (omega arith)
 
 -- what `far` holds
 record Far (P far : List ℕ) : Type 0 where
@@ -48,7 +43,7 @@ module _ {P table₀ table far : List ℕ} {u : ℕ} (r : Ruled (256 * u) (entry
   row ys size entries =
       let k : 256 * u + 256 - 256 * u ≡ 256 = omega arith in
       let n : 256 * u + 256 ≡ 256 * (u + 1) = omega arith in
-      rw k (subst (λ (i : ℕ). Ruled i (entryAt P) table₀ (putMid (256 * u) 256 table ys)) n (ruled-part r 256 ys (omega arith) size (λ v l. entries v l ∙ row-entry P u v l)))
+      rw k (subst (λ (i : ℕ). Ruled i (entryAt P) table₀ (putMid (256 * u) 256 table ys)) n (ruled-part r 256 ys (omega arith) size (λ v l. entries v l ∙ sym (doubleEntry-at P u v l))))
 
   part-long : length (midOf (256 * u) (256 * u + 256 - 256 * u) table) ≡ 256
   part-long = mid-len (256 * u) (256 * u + 256) table (omega (arith, r .long)) ∙ omega arith

@@ -1,16 +1,14 @@
 -- `shifts::fill` meets its contract. First loop: the first c entries are the base. Second loop: all 256 are the base less the last position of each letter
 -- among the first q, and one letter more changes its own entry alone. Assumes nothing.
-use borrow.Author.Needs.{needs}
-use mathlib.Core.Path.{_≡_, refl, sym, ap, _∙_}
-use Prim.Native.Nat.{ℕ, suc, _+_, _-_, _≤_, _<_}
+use mathlib.Core.Path.{_≡_, refl, ap, _∙_}
+use Prim.Native.Nat.{ℕ, suc, _+_, _-_, _≤_}
 use native.Mathlib.Omega.{arith}
 use native.Mathlib.Numerals.{add-one}
 use mathlib.Core.Bool.{cond}
 use mathlib.Core.List.{List, _++_}
-use lib.ListN.{length, getD, drop}
+use lib.ListN.{getD, drop}
 use lib.Dec.{eqb}
 use Rattle.matching.proofs.Tests.{by-test}
-use Rattle.shifts.specs.Tables.{tabulate}
 use Rattle.shifts.specs.BadCharacter.{lastIn, lastTable}
 use Rattle.shifts.proofs.Tables.{Ruled, ruled-is, ruled-none, ruled-next, ruled-set, ruled-as, ruled-anew, ruled-since}
 use Rattle.shifts.proofs.BadCharacter.{lastIn-zero, lastIn-more}

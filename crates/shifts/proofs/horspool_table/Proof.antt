@@ -4,7 +4,7 @@ use mathlib.Core.Path.{_≡_, sym, ap, _∙_}
 use mathlib.Core.Logic.{⊎-elim}
 use Prim.Native.Nat.{ℕ, _+_, _-_}
 use native.Mathlib.Omega.{arith}
-use mathlib.Core.List.{List, _++_}
+use mathlib.Core.List.{_++_}
 use lib.ListN.{length, drop}
 use Rattle.shifts.specs.BadCharacter.{lastTable, horspoolEntry}
 use Rattle.shifts.proofs.Tables.{made-short-by, made-long-by, made-by}

@@ -1,8 +1,7 @@
 -- `shifts::kmp_table` meets its contract. The outer loop has made b[1] to b[q + 1], and j is in the chain of borders of the first q letters, at its longest
 -- where q is above 0. The inner loop goes down the chain and passes over no border with letter q + 1 after it. Both loops have the measure 2 (m - q) + j, which is
 -- 2m at the start: an entry followed takes 1 from it at least, and so does a letter done, so all turns together are at most 2m. Assumes nothing.
-use borrow.Author.Needs.{needs}
-use mathlib.Core.Path.{_≡_, refl, sym, ap, _∙_}
+use mathlib.Core.Path.{_≡_, sym, ap, _∙_}
 use Prim.Native.Nat.{ℕ, suc, _+_, _-_, _*_, _≤_, _<_}
 use native.Mathlib.Omega.{arith}
 use native.Mathlib.Numerals.{add-one}
@@ -11,7 +10,7 @@ use mathlib.Core.List.{List, _++_}
 use lib.ListN.{length, getD, drop, set, length-set}
 use lib.Seq.{drop-set-lt}
 use Rattle.matching.proofs.Tests.{at-same}
-use Rattle.shifts.specs.Tables.{made, tabulate}
+use Rattle.shifts.specs.Tables.{tabulate}
 use Rattle.shifts.specs.Kmp.{kmpEntry, kmpMade}
 use Rattle.shifts.proofs.Tables.{Ruled, ruled-none, ruled-next, ruled-anew, ruled-is, made-short-by, made-long-by, made-by}
 use Rattle.shifts.proofs.Kmp.{kmpEntry-le, Chain, Longest, chain-start, longest-chain, chain-on, chain-ends, entry-longest, entry-same}

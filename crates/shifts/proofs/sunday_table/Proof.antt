@@ -1,9 +1,8 @@
 -- `shifts::sunday_table` meets its contract. Assumes nothing.
 use borrow.Author.Needs.{needs}
-use mathlib.Core.Path.{_≡_, sym, _∙_}
-use Prim.Native.Nat.{ℕ, _+_}
+use mathlib.Core.Path.{sym, _∙_}
+use Prim.Native.Nat.{_+_}
 use native.Mathlib.Omega.{arith}
-use mathlib.Core.List.{List}
 use lib.ListN.{length}
 use Rattle.shifts.specs.BadCharacter.{sundayEntry}
 use Rattle.shifts.proofs.Tables.{made-short-by, made-long-by, made-by}

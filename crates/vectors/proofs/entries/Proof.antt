@@ -1,8 +1,6 @@
 -- `vectors::entries` is safe and ends. Assumes nothing.
 use borrow.Author.Needs.{needs}
-use mathlib.Core.Logic.{⊎-elim}
-use Prim.Native.Nat.{_-_, ℕ, _≤_}
-use native.Mathlib.Omega.{arith}
+use Prim.Native.Nat.{_-_, _≤_}
 use Rattle.vectors.proofs.entries.Statement.{statement}
 use Rattle.vectors.proofs.entries.Tie as tie
 

@@ -1,0 +1,2 @@
+-- The engine's steps are right.
+pub mod Sound

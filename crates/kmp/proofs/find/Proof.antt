@@ -1,0 +1,298 @@
+-- `kmp::find` meets its contract. The loop's invariant is the run's progress (`matching`), with the table by its rule (`shifts`); the inner loop reaches as far from
+-- letter k + 1 on as from the first letter that is not carried. Assumes nothing.
+use borrow.Author.Needs.{needs}
+use mathlib.Core.Path.{_≡_, refl, sym, ap, _∙_}
+use mathlib.Core.Logic.{⊎-elim}
+use Prim.Native.Nat.{ℕ, _+_, _-_, _≤_}
+use native.Mathlib.Omega.{arith}
+use mathlib.Core.List.{List}
+use lib.ListN.{length, getD}
+use Rattle.matching.specs.Letters.{reach}
+use Rattle.matching.specs.Machine.{at}
+use Rattle.matching.proofs.Letters.{reach-equal, reach-unequal, reach-done, reach-first, reach-nothing}
+use Rattle.matching.proofs.Find.{within, found-refused}
+use Rattle.matching.proofs.Progress.{Progress, begins, hit-up, miss-up, total-small, compared-small, same-list, past, keeps}
+use Rattle.shifts.specs.Kmp.{kmpEntry}
+use Rattle.shifts.specs.Moves.{kmpMove}
+use Rattle.shifts.proofs.Tables.{Entries, Reads, made-entries, made-by}
+use Rattle.shifts.proofs.Kmp.{kmpEntry-le, kmp-reads}
+use Rattle.shifts.proofs.Moves.{kmp-next}
+use Rattle.kmp.specs.Kmp.{window, kmp}
+use Rattle.kmp.proofs.Sound.{sound}
+use Rattle.kmp.proofs.find.Statement.{statement}
+use Rattle.kmp.proofs.find.Tie as tie
+
+abbrev Inv-loop2 : tie.InvT-loop2
+Inv-loop2 pattern text scratch list m n refusal total compared s q k₀ k = (reach pattern text s k ≡ reach pattern text s q) × ((q ≤ k) × (k ≤ length pattern))
+
+abbrev μ-loop2 : tie.MeasureT-loop2
+μ-loop2 pattern text scratch list m n refusal total compared s q k₀ k = length pattern - k
+
+abbrev Inv-loop : tie.InvT-loop
+Inv-loop pattern text scratch list₀ m n refusal total₀ compared₀ s₀ q₀ list total compared s q = Progress kmp pattern text list₀ (at s q) total compared list × ((s ≤ length text + 1) × Entries (length pattern + 1) (kmpEntry pattern) scratch)
+
+abbrev μ-loop : tie.MeasureT-loop
+μ-loop pattern text scratch list₀ m n refusal total₀ compared₀ s₀ q₀ list total compared s q = length text + 1 - s
+
+-- nothing is carried and the first letter differs: one look, and the window moves on by 1, since b[1] is 0
+first-differs : {P T list₀ : List ℕ} {s q total compared : ℕ} {list : List ℕ} → Progress kmp P T list₀ (at s q) total compared list → s + length P ≤ length T → q ≡ 0
+    → (getD P 0 0 ≡ getD T s 0 → ⊥) → Progress kmp P T list₀ (at (s + 1) q) total (compared + 1) list
+unfolding window
+first-differs {P} {T} {list₀} {s} {q} {total} {compared} {list} p inside zero differs =
+    let some = p .sound .some in
+    let none : reach P T s q ≡ 0 = ap (reach P T s) zero ∙ reach-nothing P T s some (omega arith) differs in
+    miss-up p inside (rw (kmp-next P s (reach P T s q) 0 (s + 1) q (omega (arith, kmpEntry-le P (reach P T s q))) (omega arith) (omega arith))) (sym none) some (omega arith)
+
+-- as many letters are equal as were reached
+reached : (d : tie.Left-loop2 Inv-loop2 μ-loop2 Inv-loop μ-loop)
+    → let l = d .before .before .before .before in let a = l .before .before .before .before .before .before .before .before .before .before .before .args in
+    d .before .loop2 .k ≡ reach (a .pattern .now) (a .text .now) (l .loop .s) (l .loop .q)
+reached d =
+    let i = d .before in
+    let l = i .before .before .before in
+    let a = l .before .before .before .before .before .before .before .before .before .before .before .args in
+    let P = a .pattern .now in
+    let T = a .text .now in
+    ⊎-elim
+    (λ w. sym (reach-done P T (l .loop .s) (i .loop2 .k) (w .left)) ∙ i .loop2 .inv .0)
+    (λ w. sym (reach-unequal P T (l .loop .s) (i .loop2 .k) (w .0 .taken) (omega (arith, w .0 .taken)) (w .4 .taken)) ∙ i .loop2 .inv .0)
+    (d .loop2-test .came)
+
+-- one window done, whether it reports or not
+stepped : (j : tie.Joined5 Inv-loop2 μ-loop2 Inv-loop μ-loop)
+    → let l = j .before .before .before .before .before .before in let a = l .before .before .before .before .before .before .before .before .before .before .before .args in
+    Progress kmp (a .pattern .now) (a .text .now) (a .list .now) (kmpMove (a .pattern .now) (l .loop .s) (j .before .before .before .loop2 .k)) (j .if5 .total) (j .if5 .compared) (j .if5 .list)
+unfolding window
+stepped j =
+    let i = j .before .before .before in
+    let l = i .before .before .before in
+    let a = l .before .before .before .before .before .before .before .before .before .before .before .args in
+    let p = l .loop .inv .0 in
+    let is = reached (j .before .before) in
+    rw is
+    (⊎-elim
+    (λ w. rw (w .1, w .2, w .3) (miss-up p (omega arith) refl is (w .0 .taken) (omega (arith, i .loop2 .inv .1 .0))))
+    (λ w. rw (w .5, w .6, w .7, w .2 .ensures) (hit-up p (omega arith) refl is (omega (arith, w .0 .left, i .loop2 .inv .1 .1)) (omega (arith, i .loop2 .inv .1 .0))))
+    (j .if5 .came))
+
+-- the move: b[j] for the j that was reached
+moved : (c : tie.After-slice-known5 Inv-loop2 μ-loop2 Inv-loop μ-loop)
+    → let i = c .before .before .before .before in let l = i .before .before .before in let a = l .before .before .before .before .before .before .before .before .before .before .before .args in
+    Reads (getD (l .before .before .before .kmp-table .last .1 .0) (i .loop2 .k) 0) (kmpEntry (a .pattern .now) (i .loop2 .k)) 0 (i .loop2 .k)
+moved c =
+    let i = c .before .before .before .before in
+    let l = i .before .before .before in
+    let a = l .before .before .before .before .before .before .before .before .before .before .before .args in
+    kmp-reads (a .pattern .now) _ (l .loop .inv .1 .1) (i .loop2 .inv .1 .1)
+
+add-refused : tie.Need-add-refused Inv-loop2 μ-loop2 Inv-loop μ-loop
+add-refused c = omega arith
+
+refused-requires : tie.Need-refused-requires Inv-loop2 μ-loop2 Inv-loop μ-loop
+refused-requires c κs = omega arith
+
+returns : tie.Need-returns Inv-loop2 μ-loop2 Inv-loop μ-loop
+returns c = found-refused (c .before .refused .ensures) (c .if1 .taken)
+
+kmp-table-requires : tie.Need-kmp-table-requires Inv-loop2 μ-loop2 Inv-loop μ-loop
+kmp-table-requires c κs = tt
+
+loop-holds : tie.Need-loop-holds Inv-loop2 μ-loop2 Inv-loop μ-loop
+loop-holds c =
+    let e = c .before .before .before .before in
+    let a = e .before .before .before .before .before .before .args in
+    let none = sym (e .before .refused .ensures) ∙ e .if1 .left in
+    let limits = within _ _ _ _ none in
+    (begins kmp (a .pattern .now) (a .text .now) (a .scratch .now) (a .list .now) none (sound (a .pattern .now) (a .text .now)), (omega arith, made-entries (length (a .pattern .now)) (length (a .pattern .now) + 1) (kmpEntry (a .pattern .now)) (a .scratch .now) (limits .room) (omega (arith, limits .short)) (c .before .before .kmp-table .ensures)))
+
+add-loop : tie.Need-add-loop Inv-loop2 μ-loop2 Inv-loop μ-loop
+add-loop c = omega (arith, c .loop .inv .0 .short, c .loop .inv .0 .small)
+
+shared-slice-read-if3 : tie.Need-shared-slice-read-if3 Inv-loop2 μ-loop2 Inv-loop μ-loop
+shared-slice-read-if3 c = omega (arith, c .before .before .before .loop .inv .0 .sound .some)
+
+shared-slice-read-if3-2 : tie.Need-shared-slice-read-if3-2 Inv-loop2 μ-loop2 Inv-loop μ-loop
+shared-slice-read-if3-2 c = omega (arith, c .before .before .before .before .loop .inv .0 .sound .some)
+
+add-compared : tie.Need-add-compared Inv-loop2 μ-loop2 Inv-loop μ-loop
+add-compared c = let p = c .before .before .before .before .before .loop .inv .0 in omega (arith, compared-small p)
+
+add-s : tie.Need-add-s Inv-loop2 μ-loop2 Inv-loop μ-loop
+add-s c = let p = c .before .before .before .before .before .loop .inv .0 in omega (arith, p .small)
+
+loop-less : tie.Need-loop-less Inv-loop2 μ-loop2 Inv-loop μ-loop
+loop-less c = omega arith
+
+loop-again : tie.Need-loop-again Inv-loop2 μ-loop2 Inv-loop μ-loop
+loop-again c =
+    let l = c .before .before .before .before .before in
+    (first-differs (l .loop .inv .0) (omega arith) (c .before .before .before .if2 .taken) (c .if3 .taken), (omega (arith, l .loop .inv .0 .sound .some), l .loop .inv .1 .1))
+
+loop2-holds : tie.Need-loop2-holds Inv-loop2 μ-loop2 Inv-loop μ-loop
+loop2-holds c =
+    let l = c .before .before in
+    let a = l .before .before .before .before .before .before .before .before .before .before .before .args in
+    let P = a .pattern .now in
+    let T = a .text .now in
+    let p = l .loop .inv .0 in
+    ⊎-elim
+    (λ w. (ap (reach P T (l .loop .s)) (w .4) ∙ sym (reach-first P T (l .loop .s) (p .sound .some) (omega (arith, p .sound .some)) (w .3 .left)) ∙ ap (reach P T (l .loop .s)) (sym (w .0 .taken)), (omega (arith, w .0 .taken, w .4), omega (arith, w .4, p .sound .some))))
+    (λ w. (ap (reach P T (l .loop .s)) (w .1), (omega (arith, w .1), omega (arith, w .1, p .carried .part))))
+    (c .if2 .came)
+
+shared-slice-read-if4 : tie.Need-shared-slice-read-if4 Inv-loop2 μ-loop2 Inv-loop μ-loop
+shared-slice-read-if4 c = omega arith
+
+add-if4 : tie.Need-add-if4 Inv-loop2 μ-loop2 Inv-loop μ-loop
+add-if4 c = let p = c .before .before .before .before .before .before .loop .inv .0 in omega (arith, p .short, p .small)
+
+shared-slice-read-if4-2 : tie.Need-shared-slice-read-if4-2 Inv-loop2 μ-loop2 Inv-loop μ-loop
+shared-slice-read-if4-2 c = omega arith
+
+add-k : tie.Need-add-k Inv-loop2 μ-loop2 Inv-loop μ-loop
+add-k c = omega arith
+
+loop2-less : tie.Need-loop2-less Inv-loop2 μ-loop2 Inv-loop μ-loop
+loop2-less c = omega arith
+
+loop2-again : tie.Need-loop2-again Inv-loop2 μ-loop2 Inv-loop μ-loop
+loop2-again c =
+    let i = c .before .before .before .before .before in
+    let l = i .before .before .before in
+    let a = l .before .before .before .before .before .before .before .before .before .before .before .args in
+    (sym (reach-equal (a .pattern .now) (a .text .now) (l .loop .s) (i .loop2 .k) (omega arith) (omega arith) (c .if4 .left)) ∙ i .loop2 .inv .0, (omega arith, omega arith))
+
+sub-compared : tie.Need-sub-compared Inv-loop2 μ-loop2 Inv-loop μ-loop
+sub-compared c = omega (arith, c .before .before .loop2 .inv .1 .0)
+
+add-compared-2 : tie.Need-add-compared-2 Inv-loop2 μ-loop2 Inv-loop μ-loop
+add-compared-2 c = let p = c .before .before .before .before .before .loop .inv .0 in omega (arith, compared-small p, c .before .before .loop2 .inv .1 .1, p .short)
+
+add-compared-3 : tie.Need-add-compared-3 Inv-loop2 μ-loop2 Inv-loop μ-loop
+add-compared-3 c = let p = c .before .before .before .before .before .before .loop .inv .0 in omega (arith, compared-small p, c .before .before .before .loop2 .inv .1 .1, p .short)
+
+cast-store : tie.Need-cast-store Inv-loop2 μ-loop2 Inv-loop μ-loop
+cast-store c = let p = c .before .before .before .before .before .before .before .loop .inv .0 in omega (arith, p .small)
+
+store-requires : tie.Need-store-requires Inv-loop2 μ-loop2 Inv-loop μ-loop
+store-requires c κs = tt
+
+add-total : tie.Need-add-total Inv-loop2 μ-loop2 Inv-loop μ-loop
+add-total c = let p = c .before .before .before .before .before .before .before .before .before .before .loop .inv .0 in omega (arith, total-small p)
+
+mul-b : tie.Need-mul-b Inv-loop2 μ-loop2 Inv-loop μ-loop
+mul-b c = omega (arith, c .before .before .before .loop2 .inv .1 .1)
+
+slice-read-b : tie.Need-slice-read-b Inv-loop2 μ-loop2 Inv-loop μ-loop
+slice-read-b c = omega (arith, c .before .before .before .before .loop2 .inv .1 .1, c .before .before .before .before .before .before .before .loop .inv .1 .1 .room)
+
+cast-b : tie.Need-cast-b Inv-loop2 μ-loop2 Inv-loop μ-loop
+cast-b c = let p = c .before .before .before .before .before .before .before .loop .inv .0 in omega (arith, moved c .most, p .short, c .before .before .before .before .loop2 .inv .1 .1)
+
+add-s-2 : tie.Need-add-s-2 Inv-loop2 μ-loop2 Inv-loop μ-loop
+add-s-2 c = let p = c .before .before .before .before .before .before .before .loop .inv .0 in omega (arith, p .short, c .before .before .before .before .loop2 .inv .1 .1)
+
+sub-s : tie.Need-sub-s Inv-loop2 μ-loop2 Inv-loop μ-loop
+sub-s c = omega (arith, moved c .most)
+
+add-s-3 : tie.Need-add-s-3 Inv-loop2 μ-loop2 Inv-loop μ-loop
+add-s-3 c = let p = c .before .before .before .before .before .before .before .loop .inv .0 in omega (arith, p .short, p .small, c .before .before .before .before .loop2 .inv .1 .1)
+
+sub-q : tie.Need-sub-q Inv-loop2 μ-loop2 Inv-loop μ-loop
+sub-q c = omega arith
+
+loop-less-2 : tie.Need-loop-less-2 Inv-loop2 μ-loop2 Inv-loop μ-loop
+loop-less-2 c = omega (arith, moved (c .before) .most)
+
+loop-again-2 : tie.Need-loop-again-2 Inv-loop2 μ-loop2 Inv-loop μ-loop
+loop-again-2 c =
+    let i = c .before .before .before .before .before in
+    let l = i .before .before .before in
+    let a = l .before .before .before .before .before .before .before .before .before .before .before .args in
+    let m = moved (c .before) in
+    let b = getD (l .before .before .before .kmp-table .last .1 .0) (i .loop2 .k) 0 in
+    (rw (kmp-next (a .pattern .now) (l .loop .s) (i .loop2 .k) b (l .loop .s + (i .loop2 .k + 1 - b)) (b - 1) (m .is) (omega (arith, m .most)) refl) at (stepped (c .before .before)), (omega (arith, m .most, i .loop2 .inv .1 .1, c .if6 .taken), l .loop .inv .1 .1))
+
+loop-less-3 : tie.Need-loop-less-3 Inv-loop2 μ-loop2 Inv-loop μ-loop
+loop-less-3 c = omega (arith, moved (c .before) .most)
+
+loop-again-3 : tie.Need-loop-again-3 Inv-loop2 μ-loop2 Inv-loop μ-loop
+loop-again-3 c =
+    let i = c .before .before .before .before .before in
+    let l = i .before .before .before in
+    let a = l .before .before .before .before .before .before .before .before .before .before .before .args in
+    let m = moved (c .before) in
+    let b = getD (l .before .before .before .kmp-table .last .1 .0) (i .loop2 .k) 0 in
+    (rw (kmp-next (a .pattern .now) (l .loop .s) (i .loop2 .k) b (l .loop .s + (i .loop2 .k + 1 - b)) 0 (m .is) (omega (arith, m .most)) (omega (arith, c .if6 .left))) at (stepped (c .before .before)), (omega (arith, m .most, i .loop2 .inv .1 .1, c .if6 .left), l .loop .inv .1 .1))
+
+cast-found : tie.Need-cast-found Inv-loop2 μ-loop2 Inv-loop μ-loop
+cast-found c = omega (arith, total-small (c .before .loop .inv .0))
+
+cast-looks : tie.Need-cast-looks Inv-loop2 μ-loop2 Inv-loop μ-loop
+cast-looks c = omega (arith, compared-small (c .before .loop .inv .0))
+
+same-length : tie.Need-same-length Inv-loop2 μ-loop2 Inv-loop μ-loop
+same-length c = search needs
+
+same-length-2 : tie.Need-same-length-2 Inv-loop2 μ-loop2 Inv-loop μ-loop
+same-length-2 c = same-list (c .before .loop .inv .0)
+
+returns-2 : tie.Need-returns-2 Inv-loop2 μ-loop2 Inv-loop μ-loop
+returns-2 c =
+    let l = c .before in
+    let e = l .before .before .before .before .before in
+    let a = e .before .before .before .before .before .before .args in
+    let none = sym (e .before .refused .ensures) ∙ e .if1 .left in
+    let limits = within _ _ _ _ none in
+    keeps (past (l .loop .inv .0) (c .loop-test .left)) none
+    (l .before .before .before .kmp-table .ensures ∙ made-by (length (a .pattern .now)) (length (a .pattern .now) + 1) (kmpEntry (a .pattern .now)) (a .scratch .now) (limits .room) (omega (arith, limits .short)))
+
+pub find-spec : {M : Type 1} → statement M
+find-spec =
+    tie.close
+    (tie.spec
+    Inv-loop2
+    μ-loop2
+    Inv-loop
+    μ-loop
+    add-refused
+    refused-requires
+    returns
+    kmp-table-requires
+    loop-holds
+    add-loop
+    shared-slice-read-if3
+    shared-slice-read-if3-2
+    add-compared
+    add-s
+    loop-less
+    loop-again
+    loop2-holds
+    shared-slice-read-if4
+    add-if4
+    shared-slice-read-if4-2
+    add-k
+    loop2-less
+    loop2-again
+    sub-compared
+    add-compared-2
+    add-compared-3
+    cast-store
+    store-requires
+    add-total
+    mul-b
+    slice-read-b
+    cast-b
+    add-s-2
+    sub-s
+    add-s-3
+    sub-q
+    loop-less-2
+    loop-again-2
+    loop-less-3
+    loop-again-3
+    cast-found
+    cast-looks
+    same-length
+    same-length-2
+    returns-2)

@@ -1,0 +1,2 @@
+-- The engine's published steps, and the value that `Found` is told.
+pub mod Naive
