@@ -19,6 +19,7 @@ pub fn find(pattern: &[u8], text: &[u8], scratch: &mut [u16], list: &mut [u32]) 
         };
     }
     shifts::horspool_table(pattern, scratch);
+    let end = m - 1;
     let mut total = 0;
     let mut compared = 0;
     let mut s = 0;
@@ -31,7 +32,7 @@ pub fn find(pattern: &[u8], text: &[u8], scratch: &mut [u16], list: &mut [u32]) 
             matching::store(list, total, s as u32);
             total += 1;
         }
-        s += scratch[text[s + (m - 1)] as usize] as usize;
+        s += scratch[text[s + end] as usize] as usize;
     }
     let found = total as u32;
     let looks = compared as u32;

@@ -1,9 +1,19 @@
 // A program that executes the worked cases of document 01 that are not starred, and further tables; what it prints is held to the file `stdout`,
 // which was made from the document's rules by other means. It leans on the rooms whose functions it calls.
-// One line a case: what is asked, then numbers, one space before each. Every table is 9 throughout before it is made.
+// One line a case: what is asked, then numbers, one space before each. Every table is 9 throughout, and every list 9, before it is used.
+use matching::Finding;
 
 fn wide(entry: u16) -> u64 {
     entry as u64
+}
+
+fn wide_place(place: u32) -> u64 {
+    place as u64
+}
+
+fn number(value: u64) {
+    io::write_all(1, b" ");
+    io::print_decimal(1, value);
 }
 
 // Ends a line with the entries of a table from a place on, up to another or to the table's end.
@@ -11,8 +21,7 @@ fn entries(table: &[u16], from: usize, to: usize) {
     let mut i = from;
     while i < to {
         if i < table.len() {
-            io::write_all(1, b" ");
-            io::print_decimal(1, wide(table[i]));
+            number(wide(table[i]));
         }
         i += 1;
     }
@@ -20,93 +29,193 @@ fn entries(table: &[u16], from: usize, to: usize) {
 }
 
 // The KMP table of a pattern: its first `count` entries, one more than were made.
-fn kmp(pattern: &[u8], count: usize) {
+fn kmp_table(pattern: &[u8], count: usize) {
     let mut table = [9; 16];
     shifts::kmp_table(pattern, &mut table);
-    io::write_all(1, b"kmp ");
+    io::write_all(1, b"kmp table ");
     io::write_all(1, pattern);
     entries(&table, 0, count);
 }
 
 // A KMP table of five entries: too short for five letters, just enough for four.
-fn kmp_in_five(pattern: &[u8]) {
+fn kmp_table_in_five(pattern: &[u8]) {
     let mut table = [9; 5];
     shifts::kmp_table(pattern, &mut table);
-    io::write_all(1, b"kmp in five ");
+    io::write_all(1, b"kmp table in five ");
     io::write_all(1, pattern);
     entries(&table, 0, 5);
 }
 
 // Sunday and Horspool tables: the entries of some letters. A letter table has 256 entries, and one more here.
-fn sunday(pattern: &[u8], from: usize, to: usize) {
+fn sunday_table(pattern: &[u8], from: usize, to: usize) {
     let mut table = [9; 257];
     shifts::sunday_table(pattern, &mut table);
-    io::write_all(1, b"sunday ");
+    io::write_all(1, b"sunday table ");
     io::write_all(1, pattern);
     entries(&table, from, to);
 }
 
-fn horspool(pattern: &[u8], from: usize, to: usize) {
+fn horspool_table(pattern: &[u8], from: usize, to: usize) {
     let mut table = [9; 257];
     shifts::horspool_table(pattern, &mut table);
-    io::write_all(1, b"horspool ");
+    io::write_all(1, b"horspool table ");
     io::write_all(1, pattern);
     entries(&table, from, to);
 }
 
 // Both in a table one entry short.
-fn letters_in_255(pattern: &[u8]) {
+fn letter_tables_in_255(pattern: &[u8]) {
     let mut table = [9; 255];
     shifts::sunday_table(pattern, &mut table);
     shifts::horspool_table(pattern, &mut table);
-    io::write_all(1, b"letters in 255 ");
+    io::write_all(1, b"letter tables in 255 ");
     io::write_all(1, pattern);
     entries(&table, 96, 110);
 }
 
 // The double window's table: entries of one row or another. It has 65,536 entries, and one more here.
-fn double(pattern: &[u8], from: usize, to: usize) {
+fn double_table(pattern: &[u8], from: usize, to: usize) {
     let mut table = [9; 65537];
     shifts::double_window_table(pattern, &mut table);
-    io::write_all(1, b"double ");
+    io::write_all(1, b"double table ");
     io::write_all(1, pattern);
     entries(&table, from, to);
 }
 
+fn tables() {
+    kmp_table(b"a", 3);
+    kmp_table(b"aaaa", 6);
+    kmp_table(b"aaab", 6);
+    kmp_table(b"abab", 6);
+    kmp_table(b"abaababaab", 12);
+    kmp_table(b"abcabcacab", 12);
+    kmp_table(b"", 2);
+    kmp_table_in_five(b"abcab");
+    kmp_table_in_five(b"abca");
+}
+
 fn letter_tables() {
-    sunday(b"la", 96, 110);
-    sunday(b"la", 255, 257);
-    sunday(b"abcabcacab", 96, 110);
-    sunday(b"~", 125, 128);
-    horspool(b"la", 96, 110);
-    horspool(b"la", 255, 257);
-    horspool(b"abcabcacab", 96, 110);
-    horspool(b"~", 125, 128);
-    letters_in_255(b"la");
+    sunday_table(b"la", 96, 110);
+    sunday_table(b"la", 255, 257);
+    sunday_table(b"abcabcacab", 96, 110);
+    sunday_table(b"~", 125, 128);
+    horspool_table(b"la", 96, 110);
+    horspool_table(b"la", 255, 257);
+    horspool_table(b"abcabcacab", 96, 110);
+    horspool_table(b"~", 125, 128);
+    letter_tables_in_255(b"la");
 }
 
 // Rows of a letter that ends the pattern, of one inside it, and of one it lacks, at the letters 0x60 to 0x6D; and the last entries.
 fn double_tables() {
-    double(b"aba", 24928, 24942);
-    double(b"aba", 25184, 25198);
-    double(b"aba", 25440, 25454);
-    double(b"aba", 65535, 65537);
-    double(b"abcabcacab", 24928, 24942);
-    double(b"abcabcacab", 25184, 25198);
-    double(b"abcabcacab", 25440, 25454);
-    double(b"abcabcacab", 25696, 25710);
+    double_table(b"aba", 24928, 24942);
+    double_table(b"aba", 25184, 25198);
+    double_table(b"aba", 25440, 25454);
+    double_table(b"aba", 65535, 65537);
+    double_table(b"abcabcacab", 24928, 24942);
+    double_table(b"abcabcacab", 25184, 25198);
+    double_table(b"abcabcacab", 25440, 25454);
+    double_table(b"abcabcacab", 25696, 25710);
+}
+
+// The engine of a method number, 0 to 3 and 5, by its name.
+fn name(method: u32) {
+    match method {
+        0 => io::write_all(1, b"naive"),
+        1 => io::write_all(1, b"kmp"),
+        2 => io::write_all(1, b"horspool"),
+        3 => io::write_all(1, b"sunday"),
+        _ => io::write_all(1, b"double"),
+    }
+    ;
+}
+
+fn find(
+    method: u32,
+    pattern: &[u8],
+    text: &[u8],
+    scratch: &mut [u16],
+    list: &mut [u32],
+) -> Finding {
+    match method {
+        0 => naive::find(pattern, text, scratch, list),
+        1 => kmp::find(pattern, text, scratch, list),
+        2 => horspool::find(pattern, text, scratch, list),
+        3 => sunday::find(pattern, text, scratch, list),
+        _ => double_window::find(pattern, text, scratch, list),
+    }
+}
+
+// Ends a line with the places in a list.
+fn places(list: &[u32]) {
+    let mut i = 0;
+    while i < list.len() {
+        number(wide_place(list[i]));
+        i += 1;
+    }
+    io::write_all(1, b"\n");
+}
+
+// A find with a scratch of so many entries: the refusal, the total, the comparisons, and a list of four.
+fn found(method: u32, pattern: &[u8], text: &[u8], room: usize) {
+    let mut scratch = [9; 65792];
+    let mut list = [9; 4];
+    if room <= 65792 {
+        let r = find(method, pattern, text, &mut scratch[..room], &mut list);
+        number(r.refusal as u64);
+        number(r.total as u64);
+        number(r.comparisons as u64);
+        places(&list);
+    }
+}
+
+// A case of a few letters.
+fn case(method: u32, pattern: &[u8], text: &[u8], room: usize) {
+    name(method);
+    io::write_all(1, b" ");
+    io::write_all(1, pattern);
+    io::write_all(1, b" in ");
+    io::write_all(1, text);
+    number(room as u64);
+    found(method, pattern, text, room);
+}
+
+// A case of m letters a in n letters a, with all the room there is.
+fn limit(method: u32, m: usize, n: usize) {
+    let pattern = [97; 1025];
+    let text = [97; 32769];
+    if m <= 1025 {
+        if n <= 32769 {
+            name(method);
+            number(m as u64);
+            number(n as u64);
+            found(method, &pattern[..m], &text[..n], 65792);
+        }
+    }
+}
+
+// One engine: the finder's example with just enough scratch, with one entry less and with no phrase; a refrain that overlaps itself; and the limits.
+fn engine(method: u32, enough: usize) {
+    case(method, b"aba", b"ababa", enough);
+    if 0 < enough {
+        case(method, b"aba", b"ababa", enough - 1);
+    }
+    case(method, b"", b"ababa", enough);
+    case(method, b"lalala", b"lala lalalalala lala", 65792);
+    case(method, b"ababa", b"aba", 65792);
+    limit(method, 1024, 1030);
+    limit(method, 1025, 1030);
+    limit(method, 2, 32768);
+    limit(method, 2, 32769);
 }
 
 fn main() {
-    kmp(b"a", 3);
-    kmp(b"aaaa", 6);
-    kmp(b"aaab", 6);
-    kmp(b"abab", 6);
-    kmp(b"abaababaab", 12);
-    kmp(b"abcabcacab", 12);
-    kmp(b"", 2);
-    kmp_in_five(b"abcab");
-    kmp_in_five(b"abca");
+    tables();
     letter_tables();
     double_tables();
+    engine(0, 0);
+    engine(1, 4);
+    engine(2, 256);
+    engine(3, 256);
+    engine(5, 65792);
 }

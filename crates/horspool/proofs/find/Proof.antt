@@ -21,10 +21,10 @@ use Rattle.horspool.proofs.find.Statement.{statement}
 use Rattle.horspool.proofs.find.Tie as tie
 
 abbrev Inv-loop : tie.InvT-loop
-Inv-loop pattern text scratch list₀ m n refusal total₀ compared₀ s₀ list total compared s = Progress horspool pattern text list₀ (at s 0) total compared list × ((s ≤ length text) × Entries 256 (horspoolEntry pattern) scratch)
+Inv-loop pattern text scratch list₀ m n refusal end total₀ compared₀ s₀ list total compared s = Progress horspool pattern text list₀ (at s 0) total compared list × ((s ≤ length text) × Entries 256 (horspoolEntry pattern) scratch)
 
 abbrev μ-loop : tie.MeasureT-loop
-μ-loop pattern text scratch list₀ m n refusal total₀ compared₀ s₀ list total compared s = length text + 1 - s
+μ-loop pattern text scratch list₀ m n refusal end total₀ compared₀ s₀ list total compared s = length text + 1 - s
 
 -- the comparing passed k letters
 passed : (c : tie.After-compare-down Inv-loop μ-loop)
@@ -73,6 +73,9 @@ returns c = found-refused (c .before .refused .ensures) (c .if1 .taken)
 horspool-table-requires : tie.Need-horspool-table-requires Inv-loop μ-loop
 horspool-table-requires c κs = tt
 
+sub-end : tie.Need-sub-end Inv-loop μ-loop
+sub-end c = let e = c .before .before .before .before in within _ _ _ _ (sym (e .before .refused .ensures) ∙ e .if1 .left) .some
+
 loop-holds : tie.Need-loop-holds Inv-loop μ-loop
 loop-holds c =
     let e = c .before .before .before .before in
@@ -101,9 +104,6 @@ store-requires c κs = tt
 
 add-total : tie.Need-add-total Inv-loop μ-loop
 add-total c = let p = c .before .before .before .before .before .before .before .loop .inv .0 in omega (arith, total-small p)
-
-sub-s : tie.Need-sub-s Inv-loop μ-loop
-sub-s c = omega (arith, c .before .before .before .loop .inv .0 .sound .some)
 
 add-s : tie.Need-add-s Inv-loop μ-loop
 add-s c = omega (arith, c .before .before .before .loop .inv .0 .small)
@@ -176,6 +176,7 @@ find-spec =
     refused-requires
     returns
     horspool-table-requires
+    sub-end
     loop-holds
     add-loop
     compare-down-requires
@@ -184,7 +185,6 @@ find-spec =
     cast-store
     store-requires
     add-total
-    sub-s
     add-s
     shared-slice-read-s
     cast-s

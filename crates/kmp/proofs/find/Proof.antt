@@ -85,6 +85,19 @@ moved c =
     let a = l .before .before .before .before .before .before .before .before .before .before .before .args in
     kmp-reads (a .pattern .now) _ (l .loop .inv .1 .1) (i .loop2 .inv .1 .1)
 
+-- and the state after it
+moves-on : (c : tie.After-slice-known5 Inv-loop2 μ-loop2 Inv-loop μ-loop) (q′ : ℕ)
+    → let j = c .before in let k = j .before .before .before .loop2 .k in let l = j .before .before .before .before .before .before in let a = l .before .before .before .before .before .before .before .before .before .before .before .args in
+    let b = getD (l .before .before .before .kmp-table .last .1 .0) k 0 in q′ ≡ b - 1
+    → Progress kmp (a .pattern .now) (a .text .now) (a .list .now) (at (l .loop .s + (k + 1 - b)) q′) (j .if5 .total) (j .if5 .compared) (j .if5 .list)
+moves-on c q′ e =
+    let i = c .before .before .before .before in
+    let l = i .before .before .before in
+    let a = l .before .before .before .before .before .before .before .before .before .before .before .args in
+    let b = getD (l .before .before .before .kmp-table .last .1 .0) (i .loop2 .k) 0 in
+    let m = moved c in
+    rw (kmp-next (a .pattern .now) (l .loop .s) (i .loop2 .k) b (l .loop .s + (i .loop2 .k + 1 - b)) q′ (m .is) (omega (arith, m .most)) e) at (stepped (c .before))
+
 add-refused : tie.Need-add-refused Inv-loop2 μ-loop2 Inv-loop μ-loop
 add-refused c = omega arith
 
@@ -205,25 +218,13 @@ loop-less-2 : tie.Need-loop-less-2 Inv-loop2 μ-loop2 Inv-loop μ-loop
 loop-less-2 c = omega (arith, moved (c .before) .most)
 
 loop-again-2 : tie.Need-loop-again-2 Inv-loop2 μ-loop2 Inv-loop μ-loop
-loop-again-2 c =
-    let i = c .before .before .before .before .before in
-    let l = i .before .before .before in
-    let a = l .before .before .before .before .before .before .before .before .before .before .before .args in
-    let m = moved (c .before) in
-    let b = getD (l .before .before .before .kmp-table .last .1 .0) (i .loop2 .k) 0 in
-    (rw (kmp-next (a .pattern .now) (l .loop .s) (i .loop2 .k) b (l .loop .s + (i .loop2 .k + 1 - b)) (b - 1) (m .is) (omega (arith, m .most)) refl) at (stepped (c .before .before)), (omega (arith, m .most, i .loop2 .inv .1 .1, c .if6 .taken), l .loop .inv .1 .1))
+loop-again-2 c = let l = c .before .before .before .before .before .before .before .before in (moves-on (c .before) _ refl, (omega (arith, moved (c .before) .most, c .before .before .before .before .before .loop2 .inv .1 .1), l .loop .inv .1 .1))
 
 loop-less-3 : tie.Need-loop-less-3 Inv-loop2 μ-loop2 Inv-loop μ-loop
 loop-less-3 c = omega (arith, moved (c .before) .most)
 
 loop-again-3 : tie.Need-loop-again-3 Inv-loop2 μ-loop2 Inv-loop μ-loop
-loop-again-3 c =
-    let i = c .before .before .before .before .before in
-    let l = i .before .before .before in
-    let a = l .before .before .before .before .before .before .before .before .before .before .before .args in
-    let m = moved (c .before) in
-    let b = getD (l .before .before .before .kmp-table .last .1 .0) (i .loop2 .k) 0 in
-    (rw (kmp-next (a .pattern .now) (l .loop .s) (i .loop2 .k) b (l .loop .s + (i .loop2 .k + 1 - b)) 0 (m .is) (omega (arith, m .most)) (omega (arith, c .if6 .left))) at (stepped (c .before .before)), (omega (arith, m .most, i .loop2 .inv .1 .1, c .if6 .left), l .loop .inv .1 .1))
+loop-again-3 c = let l = c .before .before .before .before .before .before .before .before in (moves-on (c .before) 0 (omega (arith, c .if6 .left)), (omega (arith, moved (c .before) .most, c .before .before .before .before .before .loop2 .inv .1 .1), l .loop .inv .1 .1))
 
 cast-found : tie.Need-cast-found Inv-loop2 μ-loop2 Inv-loop μ-loop
 cast-found c = omega (arith, total-small (c .before .loop .inv .0))
