@@ -1,12 +1,13 @@
 -- What `Found` asks of a refused find, and of one that is not refused; and the limits that hold where a find is not refused. For any engine. Assumes nothing.
-use mathlib.Core.Path.{_≡_, _∙_}
+use mathlib.Core.Path.{_≡_, _∙_, sym, ap}
 use Prim.Native.Nat.{ℕ, _≤_}
 use native.Mathlib.Omega.{arith}
 use mathlib.Core.Bool.{true, false, cond}
 use mathlib.Core.List.{List, _++_}
 use lib.ListN.{length, drop}
 use lib.Dec.{eqb, ltb}
-use borrow.Author.Tests.{eq-eqb, ne-eqb, eqb-false, ltb-false}
+use borrow.Author.Tests.{eqb-true, eq-eqb, ne-eqb, eqb-false, ltb-false, le-ltb}
+use Rattle.matching.specs.declared.Finding.{Finding}
 use Rattle.matching.specs.Occurrences.{occurrences}
 use Rattle.matching.specs.Received.{received}
 use Rattle.matching.specs.Find.{refusal, Engine, compared, refusalOf, Found}
@@ -37,6 +38,11 @@ within m n has needs e =
     (λ s1 _. record { some = omega (arith, eqb-false m 0 m0); short = ltb-false 1024 m m1; small = ltb-false 32768 n n1; room = ltb-false has needs s1 }))))
     e
 
+-- and the limits kept mean no refusal
+pub none-refused : (m n has needs : ℕ) → Within m n has needs → refusal m n has needs ≡ 0
+unfolding refusal
+none-refused m n has needs w = rw (ne-eqb m 0 (λ e. omega (arith, w .some)), le-ltb 1024 m (w .short), le-ltb 32768 n (w .small), le-ltb has needs (w .room))
+
 module _ {e : Engine} {P T scratch list : List ℕ} where
   -- a refusal leaves all as before
   pub found-refused : {number : ℕ} → number ≡ refusalOf e P T scratch → (number ≡ 0 → ⊥) → Found e P T scratch list (record { refusal = number; total = 0; comparisons = 0 }) scratch list
@@ -59,3 +65,23 @@ module _ {e : Engine} {P T scratch list : List ℕ} where
         left = rw on c;
         listed = rw on d;
       }
+
+  -- and back: what `Found` says of a find that is not refused
+  module _ {r : Finding} {scratch′ list′ : List ℕ} (f : Found e P T scratch list r scratch′ list′) (none : refusalOf e P T scratch ≡ 0) where
+    on : eqb (refusalOf e P T scratch) 0 ≡ true
+    on = eq-eqb (refusalOf e P T scratch) 0 none
+
+    pub found-answer : r ≡ record { refusal = 0; total = length (occurrences P T); comparisons = compared e P T }
+    found-answer = f .answer ∙ rw on
+
+    pub found-listed : list′ ≡ received list (occurrences P T)
+    found-listed = f .listed ∙ rw on
+
+  -- a find that returns no refusal met none
+  pub found-none : {r : Finding} {scratch′ list′ : List ℕ} → Found e P T scratch list r scratch′ list′ → r .refusal ≡ 0 → refusalOf e P T scratch ≡ 0
+  found-none {r} f z =
+      by-test (λ _. refusalOf e P T scratch ≡ 0) (eqb (refusalOf e P T scratch) 0)
+      (λ t. eqb-true (refusalOf e P T scratch) 0 t)
+      (λ t.
+      let is : r ≡ record { refusal = refusalOf e P T scratch; total = 0; comparisons = 0 } = f .answer ∙ rw t in
+      sym (ap (λ (x : Finding). x .refusal) is) ∙ z)

@@ -1,10 +1,10 @@
 -- Laws of comparing letters: first to last (`reach`), last to first (`equalDown`), and the looks that either costs. Assumes nothing.
 use mathlib.Core.Path.{_≡_, refl, sym, _∙_}
-use Prim.Native.Nat.{ℕ, zero, suc, _+_, _-_, _≤_, _<_}
+use Prim.Native.Nat.{ℕ, zero, suc, _+_, _-_, _≤_, _<_, min}
 use native.Mathlib.Omega.{arith}
 use mathlib.Core.Bool.{false, cond}
 use mathlib.Core.List.{List, [], _∷_}
-use lib.ListN.{length, getD, drop, length-drop, drop-of-length-le}
+use lib.ListN.{length, getD, take, drop, length-drop, drop-of-length-le}
 use lib.Seq.{drop-cons, getD-drop}
 use lib.Dec.{eqb, ltb}
 use borrow.Author.Tests.{eqb-true, eqb-false, eq-eqb, ne-eqb, le-leb, lt-leb, ltb-true, ltb-false, lt-ltb, le-ltb}
@@ -41,6 +41,15 @@ pairs-differ (x ∷ xs) (y ∷ ys) h k e =
     (eqb x y)
     (λ _ h k e. pairs-differ xs ys (omega arith) (omega arith) e)
     (λ q h k e. eqb-false x y q e) h k e
+
+-- of the first k letters of one list: as many, and at most k
+pub pairs-take : (k : ℕ) (xs ys : List ℕ) → equalPairs (take k xs) ys ≡ min k (equalPairs xs ys)
+unfolding equalPairs
+pairs-take zero xs ys = omega arith
+pairs-take (suc k) [] ys = omega arith
+pairs-take (suc k) (x ∷ xs) [] = omega arith
+pairs-take (suc k) (x ∷ xs) (y ∷ ys) =
+    by-test (λ t. cond t (suc (equalPairs (take k xs) ys)) 0 ≡ min (suc k) (cond t (suc (equalPairs xs ys)) 0)) (eqb x y) (λ _. omega (arith, pairs-take k xs ys)) (λ _. omega arith)
 
 -- ---- first to last
 

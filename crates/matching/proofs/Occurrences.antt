@@ -149,6 +149,22 @@ from-least (suc c) P T k i h =
     first zero h least = omega arith
     first (suc i) h least = omega (arith, least i (omega arith))
 
+-- a listed position lies within the text
+from-below : (c : ℕ) (P T : List ℕ) (k i : ℕ) → i < length (occursFrom c P T k) → getD (occursFrom c P T k) i 0 < k + c
+unfolding occursFrom
+from-below zero P T k i h = absurd (omega arith)
+from-below (suc c) P T k i h =
+    by-test (λ t. i < length (cond t (k ∷ occursFrom c P T (suc k)) (occursFrom c P T (suc k))) → getD (cond t (k ∷ occursFrom c P T (suc k)) (occursFrom c P T (suc k))) i 0 < k + suc c) (occursAt P T k)
+    (λ _ h. first i h (from-below c P T (suc k))) (λ _ h. omega (arith, from-below c P T (suc k) i h)) h
+  where
+    first : (i : ℕ) → i < suc (length (occursFrom c P T (suc k))) → ((i : ℕ) → i < length (occursFrom c P T (suc k)) → getD (occursFrom c P T (suc k)) i 0 < suc k + c) → getD (k ∷ occursFrom c P T (suc k)) i 0 < k + suc c
+    first zero h below = omega arith
+    first (suc i) h below = omega (arith, below i (omega arith))
+
+pub occurrences-below : (P T : List ℕ) (i : ℕ) → i < length (occurrences P T) → getD (occurrences P T) i 0 ≤ length T
+unfolding occurrences
+occurrences-below P T i h = omega (arith, from-below (suc (length T)) P T 0 i h)
+
 from-rises : (c : ℕ) (P T : List ℕ) (k i j : ℕ) → i < j → j < length (occursFrom c P T k) → getD (occursFrom c P T k) i 0 < getD (occursFrom c P T k) j 0
 unfolding occursFrom
 from-rises zero P T k i j l h = absurd (omega arith)

@@ -6,12 +6,13 @@ use native.Mathlib.Omega.{arith}
 use native.Mathlib.Nat.{mul-le-mul}
 use mathlib.Core.Bool.{true, false, cond}
 use mathlib.Core.List.{List, [], _∷_, _++_, append-nil, append-assoc}
-use lib.ListN.{length, set, drop, length-append}
+use lib.ListN.{length, getD, set, drop, length-append}
+use lib.Seq.{getD-at}
 use borrow.Author.Tests.{eq-eqb, ne-eqb}
 use Rattle.matching.specs.Occurrences.{occurrences}
 use Rattle.matching.specs.Received.{received}
 use Rattle.matching.specs.Letters.{equalOn, reach, equalDown}
-use Rattle.matching.specs.Machine.{State, stop, at, Window, Visit, runFrom, run, comparedIn, positionsIn, firstToLast, lastToFirst}
+use Rattle.matching.specs.Machine.{State, stop, at, Window, Steps, Visit, runFrom, run, comparedIn, positionsIn, firstToLast, lastToFirst}
 use Rattle.matching.specs.Find.{Engine, compared, refusalOf, Found}
 use Rattle.matching.proofs.Tests.{by-test}
 use Rattle.matching.proofs.Occurrences.{occurrences-few}
@@ -118,31 +119,52 @@ module _ {e : Engine} {P T list₀ : List ℕ} {s q total compared : ℕ} {list 
       let is : positionsIn more ≡ positionsIn (p .done) = positions-more ∙ ap (λ t. positionsIn (p .done) ++ cond t (s ∷ []) []) f ∙ append-nil _ in
       stepped (p .counted ∙ ap length (sym is)) (p .stored ∙ ap (received list₀) (sym is))
 
+  -- the same, where the window is known and the comparisons are counted by code
+  module _ {v : Window} (is : e .steps P T s q ≡ v) {c : ℕ} (sum : c ≡ compared + v .compared) where
+    pub reported-as : v .stands ≡ true → Progress e P T list₀ (v .next) (total + 1) c (set list total s)
+    reported-as f = subst (λ n. Progress e P T list₀ (v .next) (total + 1) n (set list total s)) (sym sum) (rw is at (reported (rw is f)))
+
+    pub missed-as : v .stands ≡ false → Progress e P T list₀ (v .next) total c list
+    missed-as f = subst (λ n. Progress e P T list₀ (v .next) total n list) (sym sum) (rw is at (missed (rw is f)))
+
+  -- where the position of a window that reports stands among the occurrences: it is the next one
+  module _ (f : e .steps P T s q .stands ≡ true) where
+    among : occurrences P T ≡ positionsIn (p .done) ++ s ∷ positionsIn (runFrom (e .steps) P T (e .steps P T s q .next))
+    among =
+        sym (positions-are (p .sound)) ∙ ap positionsIn (sym onward) ∙ positions-append more (runFrom (e .steps) P T (e .steps P T s q .next))
+        ∙ ap (λ l. l ++ positionsIn (runFrom (e .steps) P T (e .steps P T s q .next))) (positions-more ∙ ap (λ t. positionsIn (p .done) ++ cond t (s ∷ []) []) f)
+        ∙ append-assoc (positionsIn (p .done)) (s ∷ []) (positionsIn (runFrom (e .steps) P T (e .steps P T s q .next)))
+
+    pub reported-more : total < length (occurrences P T)
+    reported-more =
+        omega
+        (arith, p .counted, ap length among, length-append (positionsIn (p .done)) (s ∷ positionsIn (runFrom (e .steps) P T (e .steps P T s q .next))))
+
+    pub reported-place : getD (occurrences P T) total 0 ≡ s
+    reported-place =
+        ap (λ l. getD l total 0) among ∙ getD-at (positionsIn (p .done)) s (positionsIn (runFrom (e .steps) P T (e .steps P T s q .next))) 0 total (sym (p .counted))
+
   -- what code has found of a window compared first to last: the first k letters are equal, and letter k + 1, if there is one, is not
   module _ {x : State} {k c : ℕ} (is : e .steps P T s q ≡ firstToLast P T s q x) (reached : k ≡ reach P T s q) where
     pub hit-up : k ≡ length P → c + q ≡ compared + k → Progress e P T list₀ x (total + 1) c (set list total s)
-    hit-up all sum =
-        let r = reported (rw is (eq-eqb (reach P T s q) (length P) (omega arith))) in
-        subst (λ n. Progress e P T list₀ x (total + 1) n (set list total s)) (omega (arith, looks-all (length P - q) (equalOn P T s q) (omega arith))) (rw is at r)
+    hit-up all sum = reported-as is (omega (arith, looks-all (length P - q) (equalOn P T s q) (omega arith))) (eq-eqb (reach P T s q) (length P) (omega arith))
 
     pub miss-up : k < length P → c + q ≡ compared + k + 1 → Progress e P T list₀ x total c list
-    miss-up part sum =
-        let r = missed (rw is (ne-eqb (reach P T s q) (length P) (λ f. omega arith))) in
-        subst (λ n. Progress e P T list₀ x total n list) (omega (arith, looks-part (length P - q) (equalOn P T s q) (omega arith))) (rw is at r)
+    miss-up part sum = missed-as is (omega (arith, looks-part (length P - q) (equalOn P T s q) (omega arith))) (ne-eqb (reach P T s q) (length P) (λ f. omega arith))
 
   -- of a window compared last to first from letter `count` down: k letters are equal, and the one before them, if there is one, is not
   module _ {x : State} {k c : ℕ} (count : ℕ) (is : e .steps P T s q ≡ lastToFirst P T s count x) (reached : k ≡ equalDown P T s count) where
     pub hit-down : k ≡ count → c ≡ compared + k → Progress e P T list₀ x (total + 1) c (set list total s)
-    hit-down all sum =
-        let r = reported (rw is (eq-eqb (equalDown P T s count) count (omega arith))) in
-        subst (λ n. Progress e P T list₀ x (total + 1) n (set list total s)) (omega (arith, looks-all count (equalDown P T s count) (omega arith))) (rw is at r)
+    hit-down all sum = reported-as is (omega (arith, looks-all count (equalDown P T s count) (omega arith))) (eq-eqb (equalDown P T s count) count (omega arith))
 
     pub miss-down : k < count → c ≡ compared + k + 1 → Progress e P T list₀ x total c list
-    miss-down part sum =
-        let r = missed (rw is (ne-eqb (equalDown P T s count) count (λ f. omega arith))) in
-        subst (λ n. Progress e P T list₀ x total n list) (omega (arith, looks-part count (equalDown P T s count) (omega arith))) (rw is at r)
+    miss-down part sum = missed-as is (omega (arith, looks-part count (equalDown P T s count) (omega arith))) (ne-eqb (equalDown P T s count) count (λ f. omega arith))
 
 -- ---- the counters stay small: a total of at most n + 1, and at most m comparisons for each of n + 1 windows
+
+pub run-small : {w : Steps} {P T : List ℕ} → Sound w P T → length P ≤ 1024 → length T ≤ 32768 → comparedIn (run w P T) ≤ 33555456
+run-small {w} {P} {T} sound short small =
+    omega (arith, run-few sound, mul-le-mul {n₁ = suc (length T)} {m₁ = length P} {n₂ = 32769} {m₂ = 1024} (omega arith) short)
 
 module _ {e : Engine} {P T list₀ : List ℕ} {x : State} {total compared : ℕ} {list : List ℕ} (p : Progress e P T list₀ x total compared list) where
   pub total-small : total ≤ 32769
@@ -151,9 +173,7 @@ module _ {e : Engine} {P T list₀ : List ℕ} {x : State} {total compared : ℕ
       (arith, p .counted, p .small, occurrences-few P T, ap length (sym (positions-are (p .sound))), ap (λ vs. length (positionsIn vs)) (p .whole), ap length (positions-append (p .done) (runFrom (e .steps) P T x)), length-append (positionsIn (p .done)) (positionsIn (runFrom (e .steps) P T x)))
 
   pub compared-small : compared ≤ 33555456
-  compared-small =
-      omega
-      (arith, p .looked, run-few (p .sound), ap comparedIn (p .whole), compared-append (p .done) (runFrom (e .steps) P T x), mul-le-mul {n₁ = suc (length T)} {m₁ = length P} {n₂ = 32769} {m₂ = 1024} (omega (arith, p .small)) (p .short))
+  compared-small = omega (arith, p .looked, run-small (p .sound) (p .short) (p .small), ap comparedIn (p .whole), compared-append (p .done) (runFrom (e .steps) P T x))
 
   -- the list keeps its length
   pub same-list : length list ≡ length list₀
@@ -174,13 +194,30 @@ past {s = s} {q = q} p h = record { state = at s q; progress = p; ended = run-of
 pub stopped : {e : Engine} {P T list₀ : List ℕ} {total compared : ℕ} {list : List ℕ} → Progress e P T list₀ stop total compared list → Over e P T list₀ total compared list
 stopped p = record { state = stop; progress = p; ended = run-stop (p .sound) }
 
--- and the find keeps its promise, if the scratch holds the tables
-pub keeps : {e : Engine} {P T scratch scratch′ list₀ list : List ℕ} {total looked : ℕ} → Over e P T list₀ total looked list → refusalOf e P T scratch ≡ 0
-    → scratch′ ≡ e .tables P ++ drop (e .entries (length P)) scratch
-    → Found e P T scratch list₀ (record { refusal = 0; total = total; comparisons = looked }) scratch′ list
+-- all occurrences were found, with the comparisons of the whole run
+module _ {e : Engine} {P T list₀ list : List ℕ} {total looked : ℕ} (o : Over e P T list₀ total looked list) where
+  all-done : o .progress .done ≡ run (e .steps) P T
+  all-done = sym (append-nil _) ∙ ap (λ vs. o .progress .done ++ vs) (sym (o .ended)) ∙ o .progress .whole
+
+  all-found : positionsIn (o .progress .done) ≡ occurrences P T
+  all-found = ap positionsIn all-done ∙ positions-are (o .progress .sound)
+
+  pub over-total : total ≡ length (occurrences P T)
+  over-total = o .progress .counted ∙ ap length all-found
+
+  pub over-compared : looked ≡ compared e P T
+  unfolding compared
+  over-compared = o .progress .looked ∙ ap comparedIn all-done
+
+  pub over-listed : list ≡ received list₀ (occurrences P T)
+  over-listed = o .progress .stored ∙ ap (received list₀) all-found
+
+  -- and the find keeps its promise, if the scratch holds the tables
+  pub keeps : {scratch scratch′ : List ℕ} → refusalOf e P T scratch ≡ 0 → scratch′ ≡ e .tables P ++ drop (e .entries (length P)) scratch
+      → Found e P T scratch list₀ (record { refusal = 0; total = total; comparisons = looked }) scratch′ list
+  keeps none tables = found-accepted none over-total over-compared tables over-listed
+
+-- the comparisons of a find that is not refused fit 32 bits
+pub compared-fits : (e : Engine) {P T : List ℕ} → Sound (e .steps) P T → length P ≤ 1024 → length T ≤ 32768 → compared e P T ≤ 33555456
 unfolding compared
-keeps {e} {P} {T} {list₀ = list₀} o none tables =
-    let p = o .progress in
-    let all : p .done ≡ run (e .steps) P T = sym (append-nil _) ∙ ap (λ vs. p .done ++ vs) (sym (o .ended)) ∙ p .whole in
-    let found : positionsIn (p .done) ≡ occurrences P T = ap positionsIn all ∙ positions-are (p .sound) in
-    found-accepted none (p .counted ∙ ap length found) (p .looked ∙ ap comparedIn all) tables (p .stored ∙ ap (received list₀) found)
+compared-fits e sound short small = run-small sound short small

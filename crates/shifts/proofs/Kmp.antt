@@ -11,7 +11,7 @@ use borrow.Author.Tests.{eqb-true, eqb-false, ltb-true, ltb-false}
 use Rattle.matching.proofs.Tests.{by-test, at-same}
 use Rattle.shifts.specs.Tables.{largest}
 use Rattle.shifts.specs.Kmp.{strong, kmpEntry}
-use Rattle.shifts.proofs.Tables.{largest-le, largest-none, largest-holds, largest-is, Entries, Reads}
+use Rattle.shifts.proofs.Tables.{largest-le, largest-none, largest-holds, largest-is, Entries, EntriesFrom, Reads}
 use Rattle.shifts.proofs.Borders.{Border, border-zero, border-trans, border-nested, border-more, border-less, border-letter, strong-border, strong-differs, border-strong}
 
 -- ---- the rule letter by letter, for b = b[q + 1]
@@ -56,6 +56,9 @@ kmpEntry-last P h =
 -- an entry as an engine reads it
 pub kmp-reads : (P : List ℕ) {table : List ℕ} (q : ℕ) → Entries (length P + 1) (kmpEntry P) table → q ≤ length P → Reads (getD table q 0) (kmpEntry P q) 0 q
 kmp-reads P q t h = let e = t .entry q (omega arith) in record { is = e; least = omega arith; most = omega (arith, kmpEntry-le P q) }
+
+pub kmp-reads-from : (P : List ℕ) {table : List ℕ} (a q : ℕ) → EntriesFrom a (length P + 1) (kmpEntry P) table → q ≤ length P → Reads (getD table (a + q) 0) (kmpEntry P q) 0 q
+kmp-reads-from P a q t h = let e = t .entry q (omega arith) in record { is = e; least = omega arith; most = omega (arith, kmpEntry-le P q) }
 
 -- ---- how the maker finds an entry
 

@@ -267,3 +267,13 @@ made-part most₁ most₂ a b f g table {table₁} {part} room small₁ small₂
     e₂ ∙ ap (made most₂ (tabulate b g)) whole ∙ made-by most₂ b g (drop a table) (omega (arith, length-drop a table)) small₂ ∙ ap (λ (l : List ℕ). tabulate b g ++ l) (drop-drop b a table) in
     let none : drop (length table₁ - a) (drop a table₁) ≡ [] = drop-of-length-le (drop a table₁) {i = length table₁ - a} (omega (arith, length-drop a table₁)) in
     rw (front, none, second) (rw append-nil (sym (append-assoc (tabulate a f) (tabulate b g) (drop (a + b) table))))
+
+-- a maker that is lent just the front leaves what it would leave of the whole
+pub made-front : (most a : ℕ) (f : ℕ → ℕ) (table : List ℕ) {part : List ℕ} → a ≤ length table → most ≤ 65535 → part ≡ made most (tabulate a f) (take a table)
+    → part ++ drop a table ≡ made most (tabulate a f) table
+made-front most a f table {part} room small e =
+    let size : length (take a table) ≡ a = length-take-le a table room in
+    let is : part ≡ tabulate a f =
+    e ∙ made-by most a f (take a table) (omega arith) small
+    ∙ ap (λ (l : List ℕ). tabulate a f ++ l) (drop-of-length-le (take a table) {i = a} (omega arith)) ∙ append-nil (tabulate a f) in
+    ap (λ (l : List ℕ). l ++ drop a table) is ∙ sym (made-by most a f table room small)

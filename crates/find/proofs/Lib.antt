@@ -1,0 +1,2 @@
+-- What follows from the promise of a find by a method number.
+pub mod Agree

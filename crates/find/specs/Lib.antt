@@ -1,0 +1,2 @@
+-- The engine behind a method number.
+pub mod Find

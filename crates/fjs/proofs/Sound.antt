@@ -1,0 +1,100 @@
+-- FJS's steps are right at every window whose carried letters are equal, by the laws of its two tables. First the step by its cases, in terms of `reach`: how many letters are
+-- equal from the window's start on. Assumes nothing.
+use mathlib.Core.Path.{_≡_, refl, sym, ap, _∙_}
+use Prim.Native.Nat.{ℕ, zero, suc, _+_, _-_, _≤_, _<_, min}
+use native.Mathlib.Omega.{arith}
+use native.Mathlib.Nat.{add-zero}
+use mathlib.Core.Bool.{true, false, cond}
+use mathlib.Core.List.{List}
+use lib.ListN.{length, getD, take, drop}
+use lib.Dec.{eqb, ltb}
+use borrow.Author.Tests.{eqb-true, eqb-false, eq-eqb, ne-eqb, ltb-true, ltb-false}
+use Rattle.matching.specs.Letters.{equalPairs, equalOn, reach, looks}
+use Rattle.matching.specs.Machine.{State, Window, at, firstToLast}
+use Rattle.matching.proofs.Tests.{by-test, at-same}
+use Rattle.matching.proofs.Occurrences.{Stands, no-occurrence}
+use Rattle.matching.proofs.Letters.{pairs-take, meets-none, reach-le, reach-meets, reach-differs, reach-reports, looks-le}
+use Rattle.matching.proofs.Machine.{Carries, Moves, Right, Sound, right-up}
+use Rattle.shifts.specs.Moves.{sundayMove, kmpMove}
+use Rattle.shifts.proofs.Moves.{sunday-moves, kmp-moves}
+use Rattle.fjs.specs.Fjs.{endEqual, before, ended, fresh, step, window}
+
+-- ---- the window by its cases
+
+module _ (P T : List ℕ) (s : ℕ) where
+  window-none : window P T s 0 ≡ cond (endEqual P T s) (fresh P T s) (ended P T s) .window
+  unfolding window step
+  window-none = refl
+
+  -- with nothing carried, and the last letter unequal
+  pub window-end : (getD P (length P - 1) 0 ≡ getD T (s + (length P - 1)) 0 → ⊥) → window P T s 0 ≡ record { compared = 1; stands = false; next = sundayMove P T s }
+  window-end differs = window-none ∙ ap (λ t. cond t (fresh P T s) (ended P T s) .window) (ne-eqb (getD P (length P - 1) 0) (getD T (s + (length P - 1)) 0) differs)
+
+  -- with a part match carried
+  pub window-carried : (q : ℕ) → 1 ≤ q → window P T s q ≡ firstToLast P T s q (kmpMove P s (reach P T s q))
+  unfolding window step
+  window-carried zero h = absurd (omega arith)
+  window-carried (suc q) h = refl
+
+  module _ (some : 1 ≤ length P) (inside : s + length P ≤ length T) (equal : getD P (length P - 1) 0 ≡ getD T (s + (length P - 1)) 0) where
+    -- with nothing carried, and the last letter equal: letters 1 to m - 1 reach as far as the whole pattern does, but for the last letter itself
+    before-is : before P T s ≡ min (length P - 1) (reach P T s 0)
+    unfolding equalOn
+    before-is = pairs-take (length P - 1) P (drop s T) ∙ rw add-zero (omega arith)
+
+    not-last : reach P T s 0 ≡ length P - 1 → ⊥
+    not-last e = reach-differs P T s 0 inside (omega arith) (at-same P e ∙ equal ∙ at-same T (omega arith))
+
+    all-before : eqb (before P T s) (length P - 1) ≡ eqb (reach P T s 0) (length P)
+    all-before =
+        let le : reach P T s 0 ≤ length P = reach-le P T s 0 (omega arith) in
+        by-test (λ t. eqb (before P T s) (length P - 1) ≡ t) (eqb (reach P T s 0) (length P))
+        (λ e. eq-eqb (before P T s) (length P - 1) (omega (arith, before-is, eqb-true (reach P T s 0) (length P) e)))
+        (λ e. ne-eqb (before P T s) (length P - 1) (λ f. not-last (omega (arith, before-is, eqb-false (reach P T s 0) (length P) e))))
+
+    reached : cond (eqb (before P T s) (length P - 1)) (length P) (before P T s) ≡ reach P T s 0
+    reached =
+        let le : reach P T s 0 ≤ length P = reach-le P T s 0 (omega arith) in
+        rw all-before
+        (by-test (λ t. eqb (reach P T s 0) (length P) ≡ t → cond t (length P) (before P T s) ≡ reach P T s 0) (eqb (reach P T s 0) (length P))
+        (λ _ e. sym (eqb-true (reach P T s 0) (length P) e))
+        (λ _ e. omega (arith, before-is, eqb-false (reach P T s 0) (length P) e, not-last))
+        refl)
+
+    pub window-fresh : window P T s 0 ≡ record { compared = suc (looks (length P - 1) (min (length P - 1) (reach P T s 0))); stands = eqb (reach P T s 0) (length P); next = kmpMove P s (reach P T s 0) }
+    window-fresh =
+        window-none ∙ ap (λ t. cond t (fresh P T s) (ended P T s) .window) (eq-eqb (getD P (length P - 1) 0) (getD T (s + (length P - 1)) 0) equal)
+        ∙ rw (reached, all-before, before-is)
+
+-- ---- every window is right
+
+module _ (P T : List ℕ) (s q : ℕ) (inside : s + length P ≤ length T) (c : Carries P T s q) where
+  some : 1 ≤ length P
+  some = omega (arith, c .part)
+
+  by-kmp : Moves P T s (kmpMove P s (reach P T s q))
+  by-kmp = kmp-moves P T s (reach P T s q) (reach-le P T s q (omega (arith, c .part))) (reach-meets P T s q (c .meets)) (reach-differs P T s q inside) some
+
+right-none : (P T : List ℕ) (s : ℕ) → s + length P ≤ length T → Carries P T s 0 → Right P T s (window P T s 0)
+right-none P T s inside c =
+    let some : 1 ≤ length P = c .part in
+    let p : ℕ = getD P (length P - 1) 0 in
+    let t : ℕ = getD T (s + (length P - 1)) 0 in
+    by-test (λ _. Right P T s (window P T s 0)) (eqb p t)
+    (λ e.
+    rw (window-fresh P T s some inside (eqb-true p t e))
+    (record {
+      reports = reach-reports P T s 0 inside some (c .meets);
+      few = omega (arith, looks-le (length P - 1) (min (length P - 1) (reach P T s 0)) (omega arith));
+      moves = by-kmp P T s 0 inside c;
+    }))
+    (λ e.
+    rw (window-end P T s (eqb-false p t e))
+    (record { reports = sym (no-occurrence P T s some (λ st. eqb-false p t e (st .letters (length P - 1) (omega arith)))); few = some; moves = sunday-moves P T s some }))
+
+pub sound : (P T : List ℕ) → 1 ≤ length P → Sound window P T
+sound P T h = record { some = h; right = right }
+  where
+    right : (s q : ℕ) → s + length P ≤ length T → Carries P T s q → Right P T s (window P T s q)
+    right s zero inside c = right-none P T s inside c
+    right s (suc q) inside c = rw (window-carried P T s (suc q) (omega arith)) (right-up inside (by-kmp P T s (suc q) inside c) c)

@@ -1,0 +1,137 @@
+-- One window of the search, as its code goes through it: the last letter first where nothing is carried, then left to right up to a letter `until`. Assumes nothing.
+use mathlib.Core.Path.{_≡_, refl, sym, ap, subst, _∙_}
+use mathlib.Core.Logic.{_⊎_, inl, inr, ⊎-elim}
+use Prim.Native.Nat.{ℕ, zero, suc, _+_, _-_, _≤_, _<_, min}
+use native.Mathlib.Omega.{arith}
+use mathlib.Core.Bool.{true}
+use mathlib.Core.List.{List}
+use lib.ListN.{length, getD, set}
+use lib.Dec.{eqb}
+use borrow.Author.Tests.{eq-eqb, ne-eqb}
+use Rattle.matching.specs.Occurrences.{occurrences}
+use Rattle.matching.specs.Letters.{equalOn, reach, looks}
+use Rattle.matching.specs.Machine.{State, at}
+use Rattle.matching.proofs.Tests.{at-same}
+use Rattle.matching.proofs.Letters.{reach-equal, reach-unequal, reach-done, looks-part, looks-all}
+use Rattle.matching.proofs.Progress.{Progress, Over, same-list, over-total, over-compared, over-listed, reported-as, missed-as, reported-more, reported-place, hit-up, miss-up}
+use Rattle.shifts.specs.Moves.{sundayMove, kmpMove}
+use Rattle.fjs.specs.Fjs.{window, fjs}
+use Rattle.fjs.specs.Search.{Searched}
+use Rattle.fjs.proofs.Sound.{window-end, window-carried, window-fresh}
+
+module _ {P T list₀ : List ℕ} {s q total compared : ℕ} {list : List ℕ} (p : Progress fjs P T list₀ (at s q) total compared list) (inside : s + length P ≤ length T) where
+  -- nothing is carried, so the state is one that carries nothing
+  at-none : q ≡ 0 → Progress fjs P T list₀ (at s 0) total compared list
+  at-none z = subst (λ n. Progress fjs P T list₀ (at s n) total compared list) z p
+
+  -- nothing is carried and the last letter differs: one look, and Sunday's move
+  pub end-differs : q ≡ 0 → (getD P (length P - 1) 0 ≡ getD T (s + (length P - 1)) 0 → ⊥) → Progress fjs P T list₀ (sundayMove P T s) total (compared + 1) list
+  end-differs z differs = missed-as (at-none z) inside (window-end P T s differs) refl refl
+
+  -- the comparing left to right begins: nothing is carried, the last letter was looked at and is equal, and letters up to m - 1 are left; or letters are carried, and those up to
+  -- m are left. The comparisons are now c
+  abbrev pub Begun : ℕ → ℕ → Type 0
+  Begun until c = ((q ≡ 0) × ((getD P (length P - 1) 0 ≡ getD T (s + (length P - 1)) 0) × ((until ≡ length P - 1) × (c ≡ compared + 1)))) ⊎ ((1 ≤ q) × ((until ≡ length P) × (c ≡ compared)))
+
+  pub begun-le : {until c : ℕ} → Begun until c → (until ≤ length P) × ((q ≤ until) × (c ≤ compared + 1))
+  begun-le g = ⊎-elim (λ f. (omega (arith, f .1 .1 .0), (omega (arith, f .0), omega (arith, f .1 .1 .1)))) (λ f. (omega (arith, f .1 .0), (omega (arith, f .1 .0, p .carried .part), omega (arith, f .1 .1)))) g
+
+  module _ {until c : ℕ} (g : Begun until c) (k : ℕ) (same : reach P T s k ≡ reach P T s q) (q≤ : q ≤ k) where
+    some : 1 ≤ length P
+    some = p .sound .some
+
+    -- letter k + 1 is not equal
+    module _ (k< : k < until) (differs : getD P k 0 ≡ getD T (s + k) 0 → ⊥) where
+      stops : reach P T s q ≡ k
+      stops = let le = begun-le g in sym same ∙ reach-unequal P T s k (omega arith) (omega arith) differs
+
+      pub miss : {c′ : ℕ} → c′ ≡ c + (k - q) + 1 → Progress fjs P T list₀ (kmpMove P s k) total c′ list
+      miss {c′} sum =
+          ⊎-elim
+          (λ f.
+          let r : reach P T s 0 ≡ k = ap (reach P T s) (sym (f .0)) ∙ stops in
+          rw (← r)
+          (missed-as (at-none (f .0)) inside (window-fresh P T s some inside (f .1 .0))
+          (omega (arith, f .0, f .1 .1 .0, f .1 .1 .1, looks-part (length P - 1) (min (length P - 1) (reach P T s 0)) (omega (arith, f .1 .1 .0))))
+          (ne-eqb (reach P T s 0) (length P) (λ e. omega (arith, f .1 .1 .0)))))
+          (λ f. rw (← stops) (miss-up p inside (window-carried P T s q (f .0)) (sym stops) (omega (arith, f .1 .0)) (omega (arith, f .1 .1))))
+          g
+
+    -- every letter is equal
+    module _ (k≡ : k ≡ until) where
+      ends : reach P T s q ≡ length P
+      ends =
+          sym same
+          ∙ ⊎-elim
+          (λ f.
+          let e : k + 1 ≡ length P = omega (arith, f .1 .1 .0) in
+          reach-equal P T s k (omega arith) (omega arith) (at-same P (omega arith) ∙ f .1 .0 ∙ at-same T (omega arith)) ∙ ap (reach P T s) e ∙ reach-done P T s (length P) (omega arith))
+          (λ f. ap (reach P T s) (k≡ ∙ f .1 .0) ∙ reach-done P T s (length P) (omega arith))
+          g
+
+      pub hit : {c′ : ℕ} → c′ ≡ c + (k - q) → Progress fjs P T list₀ (kmpMove P s (length P)) (total + 1) c′ (set list total s)
+      hit {c′} sum =
+          ⊎-elim
+          (λ f.
+          let r : reach P T s 0 ≡ length P = ap (reach P T s) (sym (f .0)) ∙ ends in
+          rw (← r)
+          (reported-as (at-none (f .0)) inside (window-fresh P T s some inside (f .1 .0))
+          (omega (arith, f .0, f .1 .1 .0, f .1 .1 .1, looks-all (length P - 1) (min (length P - 1) (reach P T s 0)) (omega arith)))
+          (eq-eqb (reach P T s 0) (length P) r)))
+          (λ f. rw (← ends) (hit-up p inside (window-carried P T s q (f .0)) (sym ends) refl (omega (arith, f .1 .0, f .1 .1))))
+          g
+
+      stood : window P T s q .stands ≡ true
+      stood =
+          ⊎-elim
+          (λ f.
+          rw (f .0) (rw (window-fresh P T s some inside (f .1 .0)) (eq-eqb (reach P T s 0) (length P) (ap (reach P T s) (sym (f .0)) ∙ ends))))
+          (λ f. rw (window-carried P T s q (f .0)) (eq-eqb (reach P T s q) (length P) ends)) g
+
+      -- and the window's start is the next occurrence
+      pub hit-more : total < length (occurrences P T)
+      hit-more = reported-more p inside stood
+
+      pub hit-place : getD (occurrences P T) total 0 ≡ s
+      hit-place = reported-place p inside stood
+
+-- ---- the search's end
+
+-- a search goes on while the total has not reached its limit
+abbrev pub Under : ℕ → ℕ → Type 0
+Under limit total = (limit ≡ 0) ⊎ (total < limit)
+
+pub under-start : (limit : ℕ) → Under limit 0
+under-start zero = inl refl
+under-start (suc limit) = inr (omega arith)
+
+pub under-more : {limit total : ℕ} → Under limit total → (total + 1 ≡ limit → ⊥) → Under limit (total + 1)
+under-more u n = ⊎-elim (λ z. inl z) (λ h. inr (omega (arith, n))) u
+
+-- it ended with the text
+pub searched-all : {P T list₀ list : List ℕ} {limit total looked last : ℕ} → Over fjs P T list₀ total looked list → Under limit total
+    → Searched P T list₀ limit (record { total = total; comparisons = looked; last = last }) list
+searched-all {P} {T} {list₀} {list} {limit} {total} o u =
+    let short : 1 ≤ limit → limit ≤ length (occurrences P T) → ⊥ = λ h k. ⊎-elim (λ z. omega arith) (λ l. omega (arith, over-total o)) u in
+    record {
+      long = same-list (o .progress);
+      total = λ _. over-total o;
+      comparisons = λ _. over-compared o;
+      listed = λ _. over-listed o;
+      reached = λ h k. absurd (short h k);
+      last = λ h k. absurd (short h k);
+    }
+
+-- it ended at the occurrence that was wanted
+pub searched-one : {P T list₀ list : List ℕ} {limit total looked last : ℕ} → length list ≡ length list₀ → total + 1 ≡ limit → total < length (occurrences P T) → getD (occurrences P T) total 0 ≡ last
+    → Searched P T list₀ limit (record { total = total + 1; comparisons = looked; last = last }) list
+searched-one {P} {T} {list₀} {list} {limit} {total} long e more place =
+    let full : Under limit (length (occurrences P T)) → ⊥ = λ u. ⊎-elim (λ z. omega arith) (λ l. omega arith) u in
+    record {
+      long = long;
+      total = λ u. absurd (full u);
+      comparisons = λ u. absurd (full u);
+      listed = λ u. absurd (full u);
+      reached = λ h k. e;
+      last = λ h k. sym place ∙ ap (λ (i : ℕ). getD (occurrences P T) i 0) (omega arith);
+    }

@@ -1,0 +1,157 @@
+-- `fjs::nth` meets its contract: the tables are made, and a search up to the ordinal ends at that occurrence, or with the text. Assumes nothing.
+use borrow.Author.Needs.{needs}
+use mathlib.Core.Path.{_≡_, refl, sym, ap, _∙_}
+use mathlib.Core.Logic.{inr}
+use Prim.Native.Nat.{ℕ, _+_, _-_, _≤_, _<_}
+use native.Mathlib.Omega.{arith}
+use mathlib.Core.Bool.{cond, _&&_}
+use mathlib.Core.List.{List, _++_}
+use lib.ListN.{length, getD, drop}
+use lib.Dec.{leb}
+use borrow.Author.Tests.{eq-eqb, ne-eqb, le-leb, lt-leb, leb-true, leb-false}
+use Rattle.matching.specs.Occurrences.{occurrences}
+use Rattle.matching.specs.Find.{refusalOf}
+use Rattle.matching.proofs.Tests.{by-test}
+use Rattle.matching.proofs.Occurrences.{occurrences-below}
+use Rattle.matching.proofs.Find.{Within, within}
+use Rattle.fjs.specs.declared.Place.{Place}
+use Rattle.fjs.specs.declared.Place.the-variants.{Refused, At, Nothing}
+use Rattle.fjs.specs.declared.Tally.{Tally}
+use Rattle.fjs.specs.Fjs.{fjs}
+use Rattle.fjs.specs.Nth.{nthOf, nthAnswer, Located}
+use Rattle.fjs.specs.Search.{Searched}
+use borrow.Author.Needs.{needs}
+use Rattle.fjs.proofs.nth.Statement.{statement}
+use Rattle.fjs.proofs.nth.Tie as tie
+
+-- ---- the answer by its cases
+
+nth-before : (positions : List ℕ) → nthOf positions 0 ≡ Nothing
+unfolding nthOf
+nth-before positions = refl
+
+nth-past : (positions : List ℕ) (ordinal : ℕ) → length positions < ordinal → nthOf positions ordinal ≡ Nothing
+unfolding nthOf
+nth-past positions ordinal h = rw (le-leb 1 ordinal (omega arith), lt-leb ordinal (length positions) h)
+
+nth-at : (positions : List ℕ) (ordinal : ℕ) → 1 ≤ ordinal → ordinal ≤ length positions → nthOf positions ordinal ≡ At (getD positions (ordinal - 1) 0)
+unfolding nthOf
+nth-at positions ordinal h k = rw (le-leb 1 ordinal h, le-leb ordinal (length positions) k)
+
+module _ {P T scratch : List ℕ} {ordinal : ℕ} where
+  refused : {number : ℕ} → number ≡ refusalOf fjs P T scratch → (number ≡ 0 → ⊥) → Located P T scratch ordinal (Refused number) scratch
+  unfolding nthAnswer
+  refused {number} is some = let off = ne-eqb (refusalOf fjs P T scratch) 0 (λ z. some (is ∙ z)) in record { answer = rw (off, is); left = rw off }
+
+  accepted : refusalOf fjs P T scratch ≡ 0 → {r : Place} {scratch′ : List ℕ} → r ≡ nthOf (occurrences P T) ordinal → scratch′ ≡ fjs .tables P ++ drop (fjs .entries (length P)) scratch
+      → Located P T scratch ordinal r scratch′
+  unfolding nthAnswer
+  accepted none a t = let on = eq-eqb (refusalOf fjs P T scratch) 0 none in record { answer = rw on a; left = rw on t }
+
+-- the search ended with the text, or at that occurrence
+module _ {P T list list′ : List ℕ} {ordinal : ℕ} {r : Tally} (s : Searched P T list ordinal r list′) (some : 1 ≤ ordinal) where
+  fewer : r .total < ordinal → length (occurrences P T) < ordinal
+  fewer h =
+      by-test (λ _. length (occurrences P T) < ordinal) (leb ordinal (length (occurrences P T)))
+      (λ e. absurd (omega (arith, s .reached some (leb-true ordinal (length (occurrences P T)) e))))
+      (λ e. leb-false ordinal (length (occurrences P T)) e)
+
+  enough : ordinal ≤ r .total → ordinal ≤ length (occurrences P T)
+  enough h =
+      by-test (λ _. ordinal ≤ length (occurrences P T)) (leb ordinal (length (occurrences P T)))
+      (λ e. leb-true ordinal (length (occurrences P T)) e)
+      (λ e. let l = leb-false ordinal (length (occurrences P T)) e in absurd (omega (arith, s .total (inr l))))
+
+  none-there : r .total < ordinal → Nothing ≡ nthOf (occurrences P T) ordinal
+  none-there h = sym (nth-past (occurrences P T) ordinal (fewer h))
+
+  last-there : ordinal ≤ r .total → At (r .last) ≡ nthOf (occurrences P T) ordinal
+  last-there h = let k = enough h in ap At (s .last some k) ∙ sym (nth-at (occurrences P T) ordinal some k)
+
+  last-small : ordinal ≤ r .total → r .last ≤ length T
+  last-small h = let k = enough h in omega (arith, s .last some k, occurrences-below P T (ordinal - 1) (omega arith))
+
+-- ---- the function
+
+limits : (e : tie.Else1) → let a = e .before .before .before .before .before .args in Within (length (a .pattern .now)) (length (a .text .now)) (length (a .scratch .now)) (256 + (length (a .pattern .now) + 1))
+limits e = within _ _ _ _ (sym (e .before .refused .ensures) ∙ e .if1 .left)
+
+add-refused : tie.Need-add-refused
+add-refused c = search needs
+
+add-refused-2 : tie.Need-add-refused-2
+add-refused-2 c = search needs
+
+refused-requires : tie.Need-refused-requires
+refused-requires c κs = search needs
+
+returns : tie.Need-returns
+returns c = refused (c .before .refused .ensures) (c .if1 .taken)
+
+make-tables-requires : tie.Need-make-tables-requires
+make-tables-requires c κs = let l = limits (c .before) in (l .short, l .room)
+
+same-length : tie.Need-same-length
+same-length c = search needs
+
+returns-2 : tie.Need-returns-2
+returns-2 c =
+    let t = c .before .before .before in
+    let e = t .before .before in
+    let a = e .before .before .before .before .before .args in
+    accepted (sym (e .before .refused .ensures) ∙ e .if1 .left) (rw (c .if2 .taken) (sym (nth-before (occurrences (a .pattern .now) (a .text .now))))) (t .make-tables .ensures)
+
+slice-aggregate-search : tie.Need-slice-aggregate-search
+slice-aggregate-search c = search needs
+
+search-requires : tie.Need-search-requires
+search-requires c κs =
+    let t = c .before .before .before .before .before in
+    let e = t .before .before in
+    let l = limits e in
+    record { some = l .some; short = l .short; small = l .small; rest = drop (256 + (length (e .before .before .before .before .before .args .pattern .now) + 1)) (e .before .before .before .before .before .args .scratch .now); tables = t .make-tables .ensures }
+
+same-length-2 : tie.Need-same-length-2
+same-length-2 c = search needs
+
+returns-3 : tie.Need-returns-3
+returns-3 c =
+    let s = c .before .before .before in
+    let t = s .before .before .before .before .before .before in
+    let e = t .before .before in
+    accepted (sym (e .before .refused .ensures) ∙ e .if1 .left) (none-there (s .search .ensures) (omega (arith, s .before .before .before .if2 .left)) (c .if3 .taken)) (t .make-tables .ensures)
+
+cast-place : tie.Need-cast-place
+cast-place c =
+    let s = c .before .before .before .before in
+    let e = s .before .before .before .before .before .before .before .before in
+    omega (arith, last-small (s .search .ensures) (omega (arith, s .before .before .before .if2 .left)) (c .before .if3 .left), limits e .small)
+
+same-length-3 : tie.Need-same-length-3
+same-length-3 c = search needs
+
+returns-4 : tie.Need-returns-4
+returns-4 c =
+    let s = c .before .before .before .before in
+    let t = s .before .before .before .before .before .before in
+    let e = t .before .before in
+    accepted (sym (e .before .refused .ensures) ∙ e .if1 .left) (last-there (s .search .ensures) (omega (arith, s .before .before .before .if2 .left)) (c .before .if3 .left)) (t .make-tables .ensures)
+
+pub nth-spec : {M : Type 1} → statement M
+nth-spec =
+    tie.close
+    (tie.spec
+    add-refused
+    add-refused-2
+    refused-requires
+    returns
+    make-tables-requires
+    same-length
+    returns-2
+    slice-aggregate-search
+    search-requires
+    same-length-2
+    returns-3
+    cast-place
+    same-length-3
+    returns-4)

@@ -1,0 +1,32 @@
+-- Where the n-th occurrence stands (ordinal 1 is the first), and what a call that asks for it gives and leaves.
+use mathlib.Core.Path.{_≡_}
+use Prim.Native.Nat.{ℕ, _-_}
+use mathlib.Core.Bool.{Bool, true, false, cond, _&&_}
+use mathlib.Core.List.{List, _++_}
+use lib.ListN.{length, getD, drop}
+use lib.Dec.{leb}
+use Rattle.matching.specs.Occurrences.{occurrences}
+use Rattle.matching.specs.Find.{accepts, refusalOf}
+use Rattle.fjs.specs.declared.Place.{Place}
+use Rattle.fjs.specs.declared.Place.the-variants.{Refused, At, Nothing}
+use Rattle.fjs.specs.Fjs.{fjs}
+
+-- the number that document 01 has for each answer: the refusal's own, 0 for a place, 12 for an occurrence that does not exist
+abbrev pub number : Place → ℕ
+number (Refused n) = n
+number (At place) = 0
+number Nothing = 12
+
+-- the position of that ordinal among the occurrences, counted from 1
+unfoldable pub nthOf : List ℕ → ℕ → Place
+nthOf positions ordinal = cond (leb 1 ordinal && leb ordinal (length positions)) (At (getD positions (ordinal - 1) 0)) Nothing
+
+-- the answer to a call with this scratch: the refusals of a find by this engine, or the occurrence
+unfoldable pub nthAnswer : List ℕ → List ℕ → List ℕ → ℕ → Place
+unfolding nthOf
+nthAnswer P T scratch ordinal = cond (accepts fjs P T scratch) (nthOf (occurrences P T) ordinal) (Refused (refusalOf fjs P T scratch))
+
+-- the answer, and the scratch as the call leaves it: as after a find by this engine
+pub record Located (P T scratch : List ℕ) (ordinal : ℕ) (r : Place) (scratch′ : List ℕ) : Type 0 where
+  pub answer : r ≡ nthAnswer P T scratch ordinal
+  pub left : scratch′ ≡ cond (accepts fjs P T scratch) (fjs .tables P ++ drop (fjs .entries (length P)) scratch) scratch

@@ -1,0 +1,30 @@
+-- What `find` and `nth` ask of the search that they share. Not part of any public promise.
+use mathlib.Core.Path.{_≡_}
+use Prim.Native.Nat.{ℕ, _-_, _≤_, _<_}
+use mathlib.Core.Logic.{_⊎_}
+use mathlib.Core.List.{List, _++_}
+use lib.ListN.{length, getD}
+use Rattle.matching.specs.Occurrences.{occurrences}
+use Rattle.matching.specs.Received.{received}
+use Rattle.matching.specs.Find.{compared}
+use Rattle.fjs.specs.declared.Tally.{Tally}
+use Rattle.fjs.specs.Fjs.{fjs}
+
+-- the limits of a find are kept, and the tables stand at the scratch's front
+pub record Ready (P T scratch : List ℕ) : Type 0 where
+  pub some : 1 ≤ length P
+  pub short : length P ≤ 1024
+  pub small : length T ≤ 32768
+  pub rest : List ℕ
+  pub tables : scratch ≡ fjs .tables P ++ rest
+
+-- the search ends with the text, or at the occurrence of that ordinal; a limit of 0 is none
+pub record Searched (P T list : List ℕ) (limit : ℕ) (r : Tally) (list′ : List ℕ) : Type 0 where
+  pub long : length list′ ≡ length list
+  -- the occurrences are fewer than the limit: all of them were found, with the comparisons of the whole run
+  pub total : (limit ≡ 0) ⊎ (length (occurrences P T) < limit) → r .total ≡ length (occurrences P T)
+  pub comparisons : (limit ≡ 0) ⊎ (length (occurrences P T) < limit) → r .comparisons ≡ compared fjs P T
+  pub listed : (limit ≡ 0) ⊎ (length (occurrences P T) < limit) → list′ ≡ received list (occurrences P T)
+  -- they are not: it stopped at the one of that ordinal
+  pub reached : 1 ≤ limit → limit ≤ length (occurrences P T) → r .total ≡ limit
+  pub last : 1 ≤ limit → limit ≤ length (occurrences P T) → r .last ≡ getD (occurrences P T) (limit - 1) 0
