@@ -6,7 +6,7 @@ use mathlib.Core.List.{List}
 use Rattle.matching.specs.declared.Finding.{Finding}
 use Rattle.matching.specs.Find.{Engine, Found}
 use Rattle.matching.proofs.Find.{found-answer, found-listed, found-none}
-use Rattle.find.specs.Find.{engineOf, Answered}
+use Rattle.find.specs.Find.{Answered}
 
 pub record Same (r₁ r₂ : Finding) (list₁ list₂ : List ℕ) : Type 0 where
   pub total : r₁ .total ≡ r₂ .total

@@ -1,7 +1,7 @@
 -- Demand 3, exactly: for letters a and b that differ, and every n ≥ 3, aba in n letters a costs exactly 3n - 6 comparisons (`aba-costs`), and a find of it that is not refused
 -- returns that number, whatever the lent memory (`aba-found`). Every window looks at its last letter, at its first and at its second, which differs, and moves on by 1.
 -- Assumes nothing.
-use mathlib.Core.Path.{_≡_, refl, sym, ap, _∙_}
+use mathlib.Core.Path.{_≡_, sym, ap, _∙_}
 use Prim.Native.Nat.{ℕ, zero, suc, _+_, _-_, _*_, _≤_, _<_}
 use native.Mathlib.Omega.{arith}
 use mathlib.Core.Bool.{false}
@@ -18,7 +18,6 @@ use Rattle.matching.proofs.Machine.{windows-on, windows-off}
 use Rattle.matching.proofs.Find.{none-refused, found-answer}
 use Rattle.shifts.specs.Tables.{largest}
 use Rattle.shifts.specs.Kmp.{border, strong, kmpEntry}
-use Rattle.shifts.specs.Moves.{kmpMove}
 use Rattle.shifts.proofs.Moves.{kmp-next}
 use Rattle.fjs.specs.Fjs.{window, fjs}
 use Rattle.fjs.proofs.Sound.{window-fresh}

@@ -14,8 +14,6 @@ use Rattle.matching.specs.Find.{compared}
 use Rattle.matching.proofs.Tests.{by-test}
 use Rattle.matching.proofs.Letters.{reach-le, looks-le, looks-part, looks-all}
 use Rattle.matching.proofs.Machine.{windows-on, windows-off}
-use Rattle.shifts.specs.BadCharacter.{sundayEntry}
-use Rattle.shifts.specs.Kmp.{kmpEntry}
 use Rattle.shifts.specs.Moves.{sundayMove, kmpMove}
 use Rattle.shifts.proofs.BadCharacter.{sundayEntry-pos}
 use Rattle.shifts.proofs.Kmp.{kmpEntry-le}

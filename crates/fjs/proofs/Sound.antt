@@ -1,19 +1,19 @@
 -- FJS's steps are right at every window whose carried letters are equal, by the laws of its two tables. First the step by its cases, in terms of `reach`: how many letters are
 -- equal from the window's start on. Assumes nothing.
 use mathlib.Core.Path.{_≡_, refl, sym, ap, _∙_}
-use Prim.Native.Nat.{ℕ, zero, suc, _+_, _-_, _≤_, _<_, min}
+use Prim.Native.Nat.{ℕ, zero, suc, _+_, _-_, _≤_, min}
 use native.Mathlib.Omega.{arith}
 use native.Mathlib.Nat.{add-zero}
-use mathlib.Core.Bool.{true, false, cond}
+use mathlib.Core.Bool.{false, cond}
 use mathlib.Core.List.{List}
-use lib.ListN.{length, getD, take, drop}
-use lib.Dec.{eqb, ltb}
-use borrow.Author.Tests.{eqb-true, eqb-false, eq-eqb, ne-eqb, ltb-true, ltb-false}
-use Rattle.matching.specs.Letters.{equalPairs, equalOn, reach, looks}
-use Rattle.matching.specs.Machine.{State, Window, at, firstToLast}
+use lib.ListN.{length, getD, drop}
+use lib.Dec.{eqb}
+use borrow.Author.Tests.{eqb-true, eqb-false, eq-eqb, ne-eqb}
+use Rattle.matching.specs.Letters.{equalOn, reach, looks}
+use Rattle.matching.specs.Machine.{firstToLast}
 use Rattle.matching.proofs.Tests.{by-test, at-same}
-use Rattle.matching.proofs.Occurrences.{Stands, no-occurrence}
-use Rattle.matching.proofs.Letters.{pairs-take, meets-none, reach-le, reach-meets, reach-differs, reach-reports, looks-le}
+use Rattle.matching.proofs.Occurrences.{no-occurrence}
+use Rattle.matching.proofs.Letters.{pairs-take, reach-le, reach-meets, reach-differs, reach-reports, looks-le}
 use Rattle.matching.proofs.Machine.{Carries, Moves, Right, Sound, right-up}
 use Rattle.shifts.specs.Moves.{sundayMove, kmpMove}
 use Rattle.shifts.proofs.Moves.{sunday-moves, kmp-moves}

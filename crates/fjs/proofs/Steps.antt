@@ -6,11 +6,10 @@ use native.Mathlib.Omega.{arith}
 use mathlib.Core.Bool.{true}
 use mathlib.Core.List.{List}
 use lib.ListN.{length, getD, set}
-use lib.Dec.{eqb}
 use borrow.Author.Tests.{eq-eqb, ne-eqb}
 use Rattle.matching.specs.Occurrences.{occurrences}
-use Rattle.matching.specs.Letters.{equalOn, reach, looks}
-use Rattle.matching.specs.Machine.{State, at}
+use Rattle.matching.specs.Letters.{reach}
+use Rattle.matching.specs.Machine.{at}
 use Rattle.matching.proofs.Tests.{at-same}
 use Rattle.matching.proofs.Letters.{reach-equal, reach-unequal, reach-done, looks-part, looks-all}
 use Rattle.matching.proofs.Progress.{Progress, Over, same-list, over-total, over-compared, over-listed, reported-as, missed-as, reported-more, reported-place, hit-up, miss-up}

@@ -1,7 +1,7 @@
 -- Where the n-th occurrence stands (ordinal 1 is the first), and what a call that asks for it gives and leaves.
 use mathlib.Core.Path.{_≡_}
 use Prim.Native.Nat.{ℕ, _-_}
-use mathlib.Core.Bool.{Bool, true, false, cond, _&&_}
+use mathlib.Core.Bool.{cond, _&&_}
 use mathlib.Core.List.{List, _++_}
 use lib.ListN.{length, getD, drop}
 use lib.Dec.{leb}

@@ -50,7 +50,7 @@ fn search(pattern: &[u8], text: &[u8], scratch: &[u16], list: &mut [u32], limit:
     while s + m <= n {
         let mut until = m;
         if q == 0 {
-            compared += 1;
+            compared += 1; // the look at the last letter
             if pattern[end] != text[s + end] {
                 if n <= s + m {
                     break;

@@ -1,7 +1,6 @@
 // A program that executes the worked cases of document 01 that are not starred, and further tables; what it prints is held to the file `stdout`,
 // which was made from the document's rules by other means. It leans on the rooms whose functions it calls.
 // One line a case: what is asked, then numbers, one space before each. Every table is 9 throughout, and every list 9, before it is used.
-use matching::Finding;
 
 fn wide(entry: u16) -> u64 {
     entry as u64
@@ -118,32 +117,18 @@ fn double_tables() {
     double_table(b"abcabcacab", 25696, 25710);
 }
 
-// The engine of a method number, 0 to 3 and 5, by its name.
+// The engine of a method number by its name.
 fn name(method: u32) {
     match method {
         0 => io::write_all(1, b"naive"),
         1 => io::write_all(1, b"kmp"),
         2 => io::write_all(1, b"horspool"),
         3 => io::write_all(1, b"sunday"),
-        _ => io::write_all(1, b"double"),
+        4 => io::write_all(1, b"fjs"),
+        5 => io::write_all(1, b"double"),
+        _ => io::write_all(1, b"unknown"),
     }
     ;
-}
-
-fn find(
-    method: u32,
-    pattern: &[u8],
-    text: &[u8],
-    scratch: &mut [u16],
-    list: &mut [u32],
-) -> Finding {
-    match method {
-        0 => naive::find(pattern, text, scratch, list),
-        1 => kmp::find(pattern, text, scratch, list),
-        2 => horspool::find(pattern, text, scratch, list),
-        3 => sunday::find(pattern, text, scratch, list),
-        _ => double_window::find(pattern, text, scratch, list),
-    }
 }
 
 // Ends a line with the places in a list.
@@ -161,7 +146,7 @@ fn found(method: u32, pattern: &[u8], text: &[u8], room: usize) {
     let mut scratch = [9; 65792];
     let mut list = [9; 4];
     if room <= 65792 {
-        let r = find(method, pattern, text, &mut scratch[..room], &mut list);
+        let r = find::find(method, pattern, text, &mut scratch[..room], &mut list);
         number(r.refusal as u64);
         number(r.total as u64);
         number(r.comparisons as u64);
@@ -217,5 +202,7 @@ fn main() {
     engine(1, 4);
     engine(2, 256);
     engine(3, 256);
+    engine(4, 260);
     engine(5, 65792);
+    case(6, b"aba", b"ababa", 65792);
 }

@@ -1,6 +1,6 @@
 -- `fjs::find` meets its contract: the tables are made, and a search without a limit finds all. Demand 3's bound is that of the steps (proofs/Bound.antt). Assumes nothing.
 use borrow.Author.Needs.{needs}
-use mathlib.Core.Path.{_≡_, refl, sym, ap, _∙_}
+use mathlib.Core.Path.{refl, sym, _∙_}
 use mathlib.Core.Logic.{inl}
 use Prim.Native.Nat.{_+_}
 use native.Mathlib.Omega.{arith}

@@ -1,7 +1,6 @@
 -- `fjs::search` meets its contract. The loop's invariant is the run's progress (`matching`), with the total below the limit; the inner loop reaches as far from letter k + 1 on as
 -- from the first letter that is not carried. The loop is left by its test, where no letter follows the window, or at the occurrence that was wanted. Assumes nothing.
-use borrow.Author.Needs.{needs}
-use mathlib.Core.Path.{_≡_, refl, sym, ap, subst, _∙_}
+use mathlib.Core.Path.{_≡_, refl, sym, ap, _∙_}
 use mathlib.Core.Logic.{inl, inr, ⊎-elim}
 use Prim.Native.Nat.{ℕ, _+_, _-_, _≤_, _<_}
 use native.Mathlib.Omega.{arith}
@@ -14,7 +13,7 @@ use Rattle.matching.proofs.Find.{none-refused}
 use Rattle.matching.proofs.Progress.{Progress, begins, total-small, compared-small, same-list, past, stopped}
 use Rattle.shifts.specs.BadCharacter.{sundayEntry}
 use Rattle.shifts.specs.Kmp.{kmpEntry}
-use Rattle.shifts.specs.Moves.{sundayMove, kmpMove}
+use Rattle.shifts.specs.Moves.{kmpMove}
 use Rattle.shifts.proofs.Tables.{Entries, EntriesFrom, Reads, first-entries, second-entries}
 use Rattle.shifts.proofs.BadCharacter.{sunday-reads}
 use Rattle.shifts.proofs.Kmp.{kmp-reads-from}
