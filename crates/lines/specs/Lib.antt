@@ -1,0 +1,2 @@
+-- The finder's lines, and laying them out.
+pub mod Lines
