@@ -1,0 +1,62 @@
+//! Document 01, "What a find call takes and leaves" and "What a refused call hands back", rows 1 to 5.
+
+use crate::{double_window, fjs, horspool, kmp, naive, sunday};
+
+/// Refusal number, total, comparisons; and what scratch and list hold afterwards.
+pub fn find(method: u32, phrase: &[u8], text: &[u8], scratch: &mut [u16], list: &mut [u32]) -> (u32, u32, u32) {
+    // The refusals, in rising number; nothing is written.
+    if method > 5 {
+        return (1, 0, 0);
+    }
+    if phrase.is_empty() {
+        return (2, 0, 0);
+    }
+    if phrase.len() > 1024 {
+        return (3, 0, 0);
+    }
+    if text.len() > 32_768 {
+        return (4, 0, 0);
+    }
+    let needed = match method {
+        0 => 0,
+        1 => phrase.len() + 1,
+        2 | 3 => 256,
+        4 => 256 + phrase.len() + 1,
+        _ => 256 + 65_536,
+    };
+    if scratch.len() < needed {
+        return (5, 0, 0);
+    }
+
+    // The scratch holds the method's tables at its front; entries past them keep their values.
+    let tables: Vec<u16> = match method {
+        0 => Vec::new(),
+        1 => kmp::table(phrase),
+        2 => horspool::table(phrase),
+        3 => sunday::table(phrase),
+        4 => [sunday::table(phrase), kmp::table(phrase)].concat(),
+        _ => [horspool::table(phrase), double_window::table(phrase)].concat(),
+    };
+    assert_eq!(tables.len(), needed);
+    scratch[..needed].copy_from_slice(&tables);
+
+    // A phrase longer than the text gives total 0 and comparisons 0, with the tables filled all the same.
+    if phrase.len() > text.len() {
+        return (0, 0, 0);
+    }
+
+    let run = match method {
+        0 => naive::run(phrase, text),
+        1 => kmp::run(phrase, text, &tables),
+        2 => horspool::run(phrase, text, &tables),
+        3 => sunday::run(phrase, text, &tables),
+        4 => fjs::run(phrase, text, &tables[..256], &tables[256..]),
+        _ => double_window::run(phrase, text, &tables[..256], &tables[256..]),
+    };
+
+    // The list receives the first places up to its length; entries past those written keep their values; the total is full.
+    for (entry, &place) in list.iter_mut().zip(&run.places) {
+        *entry = place;
+    }
+    (0, run.places.len() as u32, run.comparisons)
+}

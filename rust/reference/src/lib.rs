@@ -1,0 +1,58 @@
+//! The finding of document 01, written again from its words alone: simple, slow, and independent of the library that it is compared with.
+//!
+//! [`find`] is the find call; [`finder_output`] is what the finder program prints. Each engine has a file of its own, with its table's rule and its
+//! steps. Tables are made by brute force from their rules.
+
+#![forbid(unsafe_code)]
+
+mod double_window;
+mod find;
+mod finder;
+mod fjs;
+mod horspool;
+mod kmp;
+mod naive;
+mod sunday;
+
+#[cfg(test)]
+mod worked_examples;
+
+pub use find::find;
+pub use finder::finder_output;
+
+/// What an engine gives: the places, rising, counted from 0, and the number of looks at a pair P[j], T[i].
+#[derive(Default)]
+struct Run {
+    places: Vec<u32>,
+    comparisons: u32,
+}
+
+impl Run {
+    /// Looks at one pair of letters: counts 1 and says whether they are equal.
+    fn look(&mut self, phrase_letter: u8, text_letter: u8) -> bool {
+        self.comparisons += 1;
+        phrase_letter == text_letter
+    }
+
+    /// Reports an occurrence that starts at this place, counted from 0.
+    fn report(&mut self, place: usize) {
+        self.places.push(place as u32);
+    }
+}
+
+/// Keeps the table of the phrase that was asked for last, because tests ask for the same phrase many times. It has no part in any result.
+#[derive(Default)]
+struct LastTable {
+    phrase: Vec<u8>,
+    table: Vec<u16>,
+}
+
+impl LastTable {
+    fn get(&mut self, phrase: &[u8], make: impl Fn(&[u8]) -> Vec<u16>) -> Vec<u16> {
+        if self.table.is_empty() || self.phrase != phrase {
+            self.table = make(phrase);
+            self.phrase = phrase.to_vec();
+        }
+        self.table.clone()
+    }
+}

@@ -1,0 +1,90 @@
+//! The worked examples of document 01, "The finder program" and "Refrains to try".
+
+use crate::{double_window, find, finder_output, fjs, horspool, kmp, sunday};
+
+/// Total, comparisons and places by a method, with memory enough.
+fn found(method: u32, phrase: &[u8], text: &[u8]) -> (u32, u32, Vec<u32>) {
+    let mut scratch = vec![7; 65_792];
+    let mut list = vec![7; text.len()];
+    let (refusal, total, comparisons) = find(method, phrase, text, &mut scratch, &mut list);
+    assert_eq!(refusal, 0);
+    list.truncate(total as usize);
+    (total, comparisons, list)
+}
+
+#[test]
+fn finder_lines() {
+    let lines = "naive 2 7 0 2\nkmp 2 5 0 2\nhorspool 2 6 0 2\nsunday 2 6 0 2\nfjs 2 5 0 2\n";
+    assert_eq!(finder_output(b"aba\nababa"), lines.as_bytes());
+    assert_eq!(finder_output(b""), b"refused 2\n");
+    assert_eq!(finder_output(b"\n"), b"refused 2\n");
+    assert_eq!(finder_output(b"ab"), b"naive 0 0\nkmp 0 0\nhorspool 0 0\nsunday 0 0\nfjs 0 0\n");
+    assert_eq!(finder_output(&[b'a'; 1025]), b"refused 3\n");
+    assert_eq!(finder_output(&[b'a'; 33_793]), b"refused 3\n");
+    assert_eq!(finder_output(&[b'a'; 33_794]), b"refused 4\n");
+}
+
+#[test]
+fn double_window_in_ababa() {
+    assert_eq!(found(5, b"aba", b"ababa"), (2, 4, vec![0, 2]));
+}
+
+#[test]
+fn tables_of_abaaca() {
+    assert_eq!(kmp::table(b"abaaca"), [0, 1, 0, 2, 2, 0, 2]);
+    let moves: Vec<u16> = kmp::table(b"abaaca").iter().enumerate().map(|(k, b)| k as u16 + 1 - b).collect();
+    assert_eq!(moves, [1, 1, 3, 2, 3, 6, 5]);
+    for c in 0..=255u8 {
+        let (by_sunday, by_horspool) = match c {
+            b'a' => (1, 2),
+            b'b' => (5, 4),
+            b'c' => (2, 1),
+            _ => (7, 6),
+        };
+        assert_eq!(sunday::table(b"abaaca")[c as usize], by_sunday);
+        assert_eq!(horspool::table(b"abaaca")[c as usize], by_horspool);
+    }
+}
+
+#[test]
+fn double_window_entries_of_abaaca() {
+    let entries = double_window::table(b"abaaca");
+    let entry = |u: u8, v: u8| entries[256 * u as usize + v as usize];
+    assert_eq!(entries.len(), 65_536);
+    assert_eq!((entry(b'a', b'a'), entry(b'a', b'x')), (0, 0));
+    assert_eq!((entry(b'c', b'a'), entry(b'b', b'x')), (1, 4));
+    assert_eq!((entry(b'x', b'a'), entry(b'x', b'b'), entry(b'x', b'c'), entry(b'x', b'x')), (6, 10, 7, 12));
+}
+
+#[test]
+fn starred_fjs_cases() {
+    assert_eq!(found(4, b"aba", b"aaaaa"), (0, 9, vec![]));
+    assert_eq!(found(4, b"aba", b"aaa"), (0, 3, vec![]));
+    assert_eq!(found(4, b"aba", b"aba"), (1, 3, vec![0]));
+    assert_eq!(found(4, b"aa", b"aaa"), (2, 3, vec![0, 1]));
+    assert_eq!(found(4, b"a", b"aaa"), (3, 3, vec![0, 1, 2]));
+    assert_eq!(found(4, b"b", b"aaa"), (0, 2, vec![]));
+    assert_eq!(found(4, b"ab", b"a"), (0, 0, vec![]));
+}
+
+#[test]
+fn limits() {
+    let mut scratch = [0; 2000];
+    let text = [b'x'; 32_769];
+    assert_eq!(find(4, &[b'a'; 1024], &text[..1024], &mut scratch, &mut []).0, 0);
+    assert_eq!(find(4, &[b'a'; 1025], &text[..1024], &mut scratch, &mut []), (3, 0, 0));
+    assert_eq!(find(4, b"abc", &text[..32_768], &mut scratch, &mut []).0, 0);
+    assert_eq!(find(4, b"abc", &text, &mut scratch, &mut []), (4, 0, 0));
+    assert_eq!(find(4, b"abc", &text[..9], &mut scratch[..259], &mut []), (5, 0, 0));
+    assert_eq!(find(4, b"abc", &text[..9], &mut scratch[..260], &mut []).0, 0);
+    assert_eq!(find(6, b"", &text, &mut [], &mut []), (1, 0, 0));
+}
+
+#[test]
+fn figure_of_document_001() {
+    // A text as the five attempts in words describe it. They look at 1 pair; at 1 and letters 1 to 4; at letters 2 and 3; at 1; at 1 and letters 1 to 3.
+    let (phrase, text) = (b"abaaca", b"abababcababbbca");
+    let run = fjs::run(phrase, text, &sunday::table(phrase), &kmp::table(phrase));
+    assert!(run.places.is_empty());
+    assert_eq!(run.comparisons, 1 + 5 + 2 + 1 + 4);
+}
