@@ -62,6 +62,9 @@ typedef struct {
 libretto_finding libretto_find(uint32_t method, const uint8_t *phrase, size_t phrase_len, const uint8_t *text, size_t text_len,
                                uint16_t *scratch, size_t scratch_len, uint32_t *list, size_t list_len);
 
+/* What a letter of ISO 8859-1 folds to: 32 is added to 0x41-0x5A and to 0xC0-0xDE except 0xD7, and every other byte stays. */
+uint8_t libretto_fold(uint8_t letter);
+
 #ifdef __cplusplus
 }
 #endif

@@ -10,6 +10,7 @@ use Rattle.shifts.specs.Tables.{tabulate}
 use Rattle.shifts.specs.BadCharacter.{lastIn, sundayTable, horspoolTable}
 use Rattle.shifts.specs.Kmp.{kmpEntry, kmpTable}
 use Rattle.fjs.specs.Fjs.{window, fjs}
+use Rattle.fold.specs.Fold.{folded}
 
 -- a row: what is asked, and the answer that document 01 gives
 pub data Case : Type 0 where
@@ -20,6 +21,8 @@ pub data Case : Type 0 where
   horspool : List ℕ → List ℕ → List ℕ → ℕ → Case
   -- a find by an engine's steps: the pattern, the text, the positions and the comparisons
   find : Engine → List ℕ → List ℕ → List ℕ → ℕ → Case
+  -- a letter, and what it folds to
+  fold : ℕ → ℕ → Case
 
 -- the entry given to a letter, or the entry of the others
 unfoldable pub given : List ℕ → List ℕ → ℕ → ℕ → ℕ
@@ -34,11 +37,12 @@ movesFrom q (b ∷ entries) = (suc q - b) ∷ movesFrom (suc q) entries
 
 -- a row holds: the definitions give its answer
 unfoldable pub holds : Case → Bool
-unfolding same tabulate lastIn kmpEntry given movesFrom occurrences runFrom positionsIn compared window
+unfolding same tabulate lastIn kmpEntry given movesFrom occurrences runFrom positionsIn compared window folded
 holds (kmp P entries moves) = same (kmpTable P) entries && same (movesFrom 0 (kmpTable P)) moves
 holds (sunday P letters entries others) = same (sundayTable P) (tabulate 256 (given letters entries others))
 holds (horspool P letters entries others) = same (horspoolTable P) (tabulate 256 (given letters entries others))
 holds (find e P T positions comparisons) = same (occurrences P T) positions && same (positionsIn (run (e .steps) P T)) positions && eqb (compared e P T) comparisons
+holds (fold letter small) = eqb (folded letter) small
 
 -- every row holds
 unfoldable pub allHold : List Case → Bool
@@ -71,4 +75,8 @@ cases =
     ∷ find fjs (a ∷ []) (a ∷ a ∷ a ∷ []) (0 ∷ 1 ∷ 2 ∷ []) 3
     ∷ find fjs (b ∷ []) (a ∷ a ∷ a ∷ []) [] 2
     ∷ find fjs (a ∷ b ∷ []) (a ∷ []) [] 0
+    ∷ fold 0xC9 0xE9
+    ∷ fold 0xD7 0xD7
+    ∷ fold 0xDF 0xDF
+    ∷ fold 0xFF 0xFF
     ∷ []

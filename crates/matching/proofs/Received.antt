@@ -1,9 +1,9 @@
 -- A lent list that receives values one by one, for entries of any type: the law by which one more value is received is `received-more`. Assumes nothing.
 use mathlib.Core.Path.{_≡_, refl, sym, ap, _∙_}
-use Prim.Native.Nat.{_+_, _-_}
+use Prim.Native.Nat.{_+_, _-_, ℕ, zero, suc, _≤_}
 use native.Mathlib.Omega.{arith}
 use mathlib.Core.List.{List, [], _∷_, _++_}
-use lib.ListN.{length, set, length-append, length-take, length-drop}
+use lib.ListN.{length, set, length-append, length-take, length-drop, take}
 use lib.Seq.{take-nil}
 use Rattle.matching.specs.Received.{received}
 
@@ -32,3 +32,10 @@ module _ {ℓ} {A : Type ℓ} where
   pub length-received : (list values : List A) → length (received list values) ≡ length list
   unfolding received
   length-received list values = simp (length-append, length-take, length-drop) (omega arith)
+
+  -- values past the list's length play no part
+  pub received-enough : (list values : List A) (k : ℕ) → length list ≤ k → received list (take k values) ≡ received list values
+  received-enough [] values k h = received-full (take k values) ∙ sym (received-full values)
+  received-enough (y ∷ list) [] k h = ap (received (y ∷ list)) (take-nil k)
+  received-enough (y ∷ list) (x ∷ values) zero h = absurd (omega arith)
+  received-enough (y ∷ list) (x ∷ values) (suc k) h = received-cons y x list (take k values) ∙ ap (λ (l : List A). x ∷ l) (received-enough list values k (omega arith)) ∙ sym (received-cons y x list values)

@@ -14,6 +14,8 @@ extern "C" {
         list: *mut u32,
         list_len: usize,
     ) -> RawFinding;
+
+    fn libretto_fold(letter: u8) -> u8;
 }
 
 /// Calls `libretto_find` on slices.
@@ -35,4 +37,10 @@ pub(crate) fn find(method: u32, phrase: &[u8], text: &[u8], scratch: &mut [u16],
             list.len(),
         )
     }
+}
+
+/// Calls `libretto_fold`.
+pub(crate) fn fold(letter: u8) -> u8 {
+    // SAFETY: the function takes and gives a number, and accepts every one.
+    unsafe { libretto_fold(letter) }
 }

@@ -223,6 +223,16 @@ pub fn find_all(method: Method, phrase: &[u8], text: &[u8]) -> Result<Vec<u32>, 
     Ok(list)
 }
 
+/// What a letter of ISO 8859-1 folds to: the small letter of a capital one, and every other byte itself.
+///
+/// ```
+/// assert_eq!(libretto::fold(0xc9), 0xe9);
+/// assert_eq!(libretto::fold(0xd7), 0xd7);
+/// ```
+pub fn fold(letter: u8) -> u8 {
+    ffi::fold(letter)
+}
+
 #[cfg(test)]
 mod tests {
     use super::*;

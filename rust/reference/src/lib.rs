@@ -9,6 +9,7 @@ mod double_window;
 mod find;
 mod finder;
 mod fjs;
+mod fold;
 mod horspool;
 mod kmp;
 mod naive;
@@ -19,6 +20,7 @@ mod worked_examples;
 
 pub use find::find;
 pub use finder::finder_output;
+pub use fold::fold;
 
 /// What an engine gives: the places, rising, counted from 0, and the number of looks at a pair P[j], T[i].
 #[derive(Default)]

@@ -1,0 +1,3 @@
+-- The laws of folding.
+pub mod Table
+pub mod Fold

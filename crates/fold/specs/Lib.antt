@@ -1,0 +1,2 @@
+-- Folding.
+pub mod Fold
