@@ -1,2 +1,3 @@
 -- What follows from the promise of a find by a method number.
 pub mod Agree
+pub mod Demand3
