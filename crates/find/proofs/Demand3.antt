@@ -1,6 +1,6 @@
 -- Demand 3, for a caller of method 4: a find that is not refused returns at most 3n - 2m comparisons where m ≤ n, and for aba in n letters a exactly 3n - 6, whatever the lent
 -- memory. Both follow from the promise of `find::find` and the engine's laws. Assumes nothing.
-use mathlib.Core.Path.{_≡_, ap, _∙_}
+use mathlib.Core.Path.{_≡_, ap}
 use Prim.Native.Nat.{ℕ, _-_, _*_, _≤_}
 use native.Mathlib.Omega.{arith}
 use mathlib.Core.List.{List}

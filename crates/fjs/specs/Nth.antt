@@ -1,7 +1,7 @@
 -- Where the n-th occurrence stands (ordinal 1 is the first), and what a call that asks for it gives and leaves.
 use mathlib.Core.Path.{_≡_}
 use Prim.Native.Nat.{ℕ, _-_}
-use mathlib.Core.Bool.{cond, _&&_}
+use mathlib.Core.Bool.{Bool, cond, _&&_}
 use mathlib.Core.List.{List, _++_}
 use lib.ListN.{length, getD, drop}
 use lib.Dec.{leb}
@@ -17,16 +17,21 @@ number (Refused n) = n
 number (At place) = 0
 number Nothing = 12
 
--- the position of that ordinal among the occurrences, counted from 1
+-- whether there is an occurrence of that ordinal, counted from 1
+abbrev pub hasNth : List ℕ → ℕ → Bool
+hasNth positions ordinal = leb 1 ordinal && leb ordinal (length positions)
+
+-- the position of that ordinal among the occurrences
 unfoldable pub nthOf : List ℕ → ℕ → Place
-nthOf positions ordinal = cond (leb 1 ordinal && leb ordinal (length positions)) (At (getD positions (ordinal - 1) 0)) Nothing
+nthOf positions ordinal = cond (hasNth positions ordinal) (At (getD positions (ordinal - 1) 0)) Nothing
 
 -- the answer to a call with this scratch: the refusals of a find by this engine, or the occurrence
 unfoldable pub nthAnswer : List ℕ → List ℕ → List ℕ → ℕ → Place
 unfolding nthOf
 nthAnswer P T scratch ordinal = cond (accepts fjs P T scratch) (nthOf (occurrences P T) ordinal) (Refused (refusalOf fjs P T scratch))
 
--- the answer, and the scratch as the call leaves it: as after a find by this engine
+-- the answer, its number in document 01, and the scratch as the call leaves it: as after a find by this engine
 pub record Located (P T scratch : List ℕ) (ordinal : ℕ) (r : Place) (scratch′ : List ℕ) : Type 0 where
   pub answer : r ≡ nthAnswer P T scratch ordinal
+  pub numbered : number r ≡ cond (accepts fjs P T scratch) (cond (hasNth (occurrences P T) ordinal) 0 12) (refusalOf fjs P T scratch)
   pub left : scratch′ ≡ cond (accepts fjs P T scratch) (fjs .tables P ++ drop (fjs .entries (length P)) scratch) scratch

@@ -1,5 +1,5 @@
 -- The rule of the constant table: one test that the checker computes over all 256 entries (`table-right`), carried to each byte by a lemma (`table-at`). Assumes nothing.
-use mathlib.Core.Path.{_≡_, refl, sym, ap, _∙_}
+use mathlib.Core.Path.{_≡_, refl}
 use Prim.Native.Nat.{ℕ, zero, suc, _+_, _<_}
 use native.Mathlib.Omega.{arith}
 use mathlib.Core.Bool.{Bool, true, _&&_}

@@ -4,6 +4,7 @@ use mathlib.Core.Path.{_≡_, refl, sym, ap, _∙_}
 use mathlib.Core.Logic.{inr}
 use Prim.Native.Nat.{ℕ, _+_, _-_, _≤_, _<_}
 use native.Mathlib.Omega.{arith}
+use mathlib.Core.Bool.{cond}
 use mathlib.Core.List.{List, _++_}
 use lib.ListN.{length, getD, drop}
 use lib.Dec.{leb}
@@ -17,7 +18,7 @@ use Rattle.fjs.specs.declared.Place.{Place}
 use Rattle.fjs.specs.declared.Place.the-variants.{Refused, At, Nothing}
 use Rattle.fjs.specs.declared.Tally.{Tally}
 use Rattle.fjs.specs.Fjs.{fjs}
-use Rattle.fjs.specs.Nth.{nthOf, nthAnswer, Located}
+use Rattle.fjs.specs.Nth.{number, hasNth, nthOf, nthAnswer, Located}
 use Rattle.fjs.specs.Search.{Searched}
 use borrow.Author.Needs.{needs}
 use Rattle.fjs.proofs.nth.Statement.{statement}
@@ -37,15 +38,19 @@ nth-at : (positions : List ℕ) (ordinal : ℕ) → 1 ≤ ordinal → ordinal �
 unfolding nthOf
 nth-at positions ordinal h k = rw (le-leb 1 ordinal h, le-leb ordinal (length positions) k)
 
+nth-number : (positions : List ℕ) (ordinal : ℕ) → number (nthOf positions ordinal) ≡ cond (hasNth positions ordinal) 0 12
+unfolding nthOf
+nth-number positions ordinal = by-test (λ t. number (cond t (At (getD positions (ordinal - 1) 0)) Nothing) ≡ cond t 0 12) (hasNth positions ordinal) (λ _. refl) (λ _. refl)
+
 module _ {P T scratch : List ℕ} {ordinal : ℕ} where
   refused : {number : ℕ} → number ≡ refusalOf fjs P T scratch → (number ≡ 0 → ⊥) → Located P T scratch ordinal (Refused number) scratch
   unfolding nthAnswer
-  refused {number} is some = let off = ne-eqb (refusalOf fjs P T scratch) 0 (λ z. some (is ∙ z)) in record { answer = rw (off, is); left = rw off }
+  refused {number} is some = let off = ne-eqb (refusalOf fjs P T scratch) 0 (λ z. some (is ∙ z)) in record { answer = rw (off, is); numbered = rw off is; left = rw off }
 
   accepted : refusalOf fjs P T scratch ≡ 0 → {r : Place} {scratch′ : List ℕ} → r ≡ nthOf (occurrences P T) ordinal → scratch′ ≡ fjs .tables P ++ drop (fjs .entries (length P)) scratch
       → Located P T scratch ordinal r scratch′
   unfolding nthAnswer
-  accepted none a t = let on = eq-eqb (refusalOf fjs P T scratch) 0 none in record { answer = rw on a; left = rw on t }
+  accepted none a t = let on = eq-eqb (refusalOf fjs P T scratch) 0 none in record { answer = rw on a; numbered = rw on (ap number a ∙ nth-number (occurrences P T) ordinal); left = rw on t }
 
 -- the search ended with the text, or at that occurrence
 module _ {P T list list′ : List ℕ} {ordinal : ℕ} {r : Tally} (s : Searched P T list ordinal r list′) (some : 1 ≤ ordinal) where
