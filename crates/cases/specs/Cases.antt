@@ -50,6 +50,7 @@ unfolding holds
 allHold [] = true
 allHold (c ∷ cs) = holds c && allHold cs
 
+-- the letters, and the pattern, of the cases
 abbrev a : ℕ
 a = 97
 

@@ -11,10 +11,11 @@ use Rattle.shifts.specs.BadCharacter.{horspoolTable}
 use Rattle.shifts.specs.DoubleWindow.{endEntry, doubleEntry, doubleTable}
 use Rattle.shifts.specs.Moves.{horspoolMove}
 
--- the letters u and v of the window at s
+-- u, the text letter under the end of the window at s
 abbrev pub under : List ℕ → List ℕ → ℕ → ℕ
 under P T s = getD T (s + (length P - 1)) 0
 
+-- v, the text letter m places on
 abbrev pub beyond : List ℕ → List ℕ → ℕ → ℕ
 beyond P T s = getD T (s + (2 * length P - 1)) 0
 

@@ -53,6 +53,7 @@ unfolding equalPairs equalOn sundayMove kmpMove
 step P T s zero = cond (endEqual P T s) (fresh P T s) (ended P T s)
 step P T s (suc q) = carried P T s (suc q)
 
+-- its window, as the machine runs it
 unfoldable pub window : Steps
 unfolding step
 window P T s q = step P T s q .window

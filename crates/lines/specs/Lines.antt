@@ -6,11 +6,12 @@ use mathlib.Core.List.{List, [], _∷_, _++_, map}
 use lib.ListN.{length, take, drop}
 use lib.Dec.{ltb, leb}
 
--- the decimal digits of n, most significant first; the first argument bounds their number
+-- decimal digits, most significant first; the first argument bounds their number
 unfoldable pub decimalIn : ℕ → ℕ → List ℕ
 decimalIn zero n = []
 decimalIn (suc f) n = let more = decimalIn f (n / 10) ++ (48 + n % 10) ∷ [] in cond (ltb n 10) ((48 + n) ∷ []) more
 
+-- the decimal digits of n; n + 1 is more than enough for their number
 unfoldable pub decimal : ℕ → List ℕ
 unfolding decimalIn
 decimal n = decimalIn (suc n) n

@@ -22,15 +22,18 @@ sundayEntry P c = length P + 1 - lastIn P (length P) c
 abbrev pub horspoolEntry : List ℕ → ℕ → ℕ
 horspoolEntry P c = length P - lastIn P (length P - 1) c
 
+-- the Sunday entries of all letters
 abbrev pub sundayTable : List ℕ → List ℕ
 sundayTable P = tabulate 256 (sundayEntry P)
 
+-- the Horspool entries of all letters
 abbrev pub horspoolTable : List ℕ → List ℕ
 horspoolTable P = tabulate 256 (horspoolEntry P)
 
--- what the makers leave of a lent table
+-- what the Sunday maker leaves of a lent table
 abbrev pub sundayMade : List ℕ → List ℕ → List ℕ
 sundayMade P table = made (length P + 1) (sundayTable P) table
 
+-- what the Horspool maker leaves of a lent table
 abbrev pub horspoolMade : List ℕ → List ℕ → List ℕ
 horspoolMade P table = made (length P) (horspoolTable P) table
