@@ -1,3 +1,3 @@
--- The laws of decimal digits and of laying pieces out.
+-- The laws of decimal digits and of fields.
 pub mod Decimal
-pub mod Laid
+pub mod Fields

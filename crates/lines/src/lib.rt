@@ -1,24 +1,7 @@
-// The room of the finder's output: bytes, numbers and whole lines, laid out one after another in a lent buffer. It leans on nothing.
-// A piece that does not fit into what is left of the buffer is left out, whole; a buffer that is long enough holds every piece (proofs/Laid.antt).
-ghost use Rattle.lines.specs.Lines.{Laid, put, putAll, field, fields, lineOf, refusedLine};
-
-// Puts a piece into the buffer from `at` on, if it fits there: where the next piece goes.
-pub fn put_bytes(buffer: &mut [u8], at: usize, piece: &[u8]) -> usize
-    ensures { λ r. ⌜ Laid (now (buffer .exit)) r (put (now (buffer .entry)) at (now (piece .entry))) ⌝ }
-{
-    if buffer.len() < piece.len() {
-        return at;
-    }
-    if buffer.len() - piece.len() < at {
-        return at;
-    }
-    let mut i = 0;
-    while i < piece.len() {
-        buffer[at + i] = piece[i];
-        i += 1;
-    }
-    at + i
-}
+// The room of the finder's output: numbers and whole lines, laid out one after another in a lent buffer.
+// It leans on `pieces`, by which a piece that does not fit is left out, whole.
+ghost use Rattle.pieces.specs.Pieces.{Laid, put, putAll};
+ghost use Rattle.lines.specs.Lines.{field, fields, lineOf, refusedLine};
 
 // Puts a number's field, a space and its decimal digits. They are found from the last to the first, in an array that holds the space before any of them.
 pub fn put_number(buffer: &mut [u8], at: usize, value: u32) -> usize
@@ -34,7 +17,7 @@ pub fn put_number(buffer: &mut [u8], at: usize, value: u32) -> usize
     }
     digits[i] = (48 + rest) as u8;
     let first = i - 1;
-    put_bytes(buffer, at, &digits[first..])
+    pieces::put_bytes(buffer, at, &digits[first..])
 }
 
 // Puts the fields of the first `count` numbers of a list.
@@ -65,18 +48,18 @@ pub fn put_line(
 ) -> usize
     ensures { λ r. ⌜ Laid (now (buffer .exit)) r (putAll (now (buffer .entry)) at (lineOf (now (name .entry)) total comparisons (now (list .entry)))) ⌝ }
 {
-    let mut next = put_bytes(buffer, at, name);
+    let mut next = pieces::put_bytes(buffer, at, name);
     next = put_number(buffer, next, total);
     next = put_number(buffer, next, comparisons);
     next = put_numbers(buffer, next, list, total as usize);
-    put_bytes(buffer, next, b"\n")
+    pieces::put_bytes(buffer, next, b"\n")
 }
 
 // Puts the line of a refusal.
 pub fn put_refused(buffer: &mut [u8], at: usize, number: u32) -> usize
     ensures { λ r. ⌜ Laid (now (buffer .exit)) r (putAll (now (buffer .entry)) at (refusedLine number)) ⌝ }
 {
-    let mut next = put_bytes(buffer, at, b"refused");
+    let mut next = pieces::put_bytes(buffer, at, b"refused");
     next = put_number(buffer, next, number);
-    put_bytes(buffer, next, b"\n")
+    pieces::put_bytes(buffer, next, b"\n")
 }

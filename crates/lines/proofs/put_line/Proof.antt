@@ -1,7 +1,7 @@
 -- `lines::put_line` meets its contract: its pieces, one after another. Assumes nothing.
 use borrow.Author.Needs.{needs}
 use Rattle.lines.specs.Lines.{lineOf}
-use Rattle.lines.proofs.Laid.{laid-one, laid-cons, laid-then}
+use Rattle.pieces.proofs.Laid.{laid-one, laid-cons, laid-then}
 use borrow.Author.Needs.{needs}
 use Rattle.lines.proofs.put_line.Statement.{statement}
 use Rattle.lines.proofs.put_line.Tie as tie

@@ -7,7 +7,8 @@ use native.Mathlib.Omega.{arith}
 use mathlib.Core.List.{List, [], _∷_, _++_, append-nil, append-assoc}
 use lib.ListN.{length, getD, drop, set, length-set, length-drop, getD-replicate, replicate}
 use lib.Seq.{drop-cons, drop-set-lt, getD-set-same, getD-set-other, take-all}
-use Rattle.lines.specs.Lines.{decimal, field, put, Laid}
+use Rattle.pieces.specs.Pieces.{put, Laid}
+use Rattle.lines.specs.Lines.{decimal, field}
 use Rattle.lines.proofs.Decimal.{decimal-one, decimal-more}
 use Rattle.lines.proofs.put_number.Statement.{statement}
 use Rattle.lines.proofs.put_number.Tie as tie

@@ -6,8 +6,10 @@ use native.Mathlib.Omega.{arith}
 use native.Mathlib.Numerals.{add-one}
 use mathlib.Core.List.{List, [], _∷_}
 use lib.ListN.{length, getD}
-use Rattle.lines.specs.Lines.{field, fields, putAll, Laid}
-use Rattle.lines.proofs.Laid.{length-put, all-none, laid-one, laid-then, fields-none, fields-next, fields-min}
+use Rattle.pieces.specs.Pieces.{putAll, Laid}
+use Rattle.pieces.proofs.Laid.{length-put, all-none, laid-one, laid-then}
+use Rattle.lines.specs.Lines.{field, fields}
+use Rattle.lines.proofs.Fields.{fields-none, fields-next, fields-min}
 use Rattle.lines.proofs.put_numbers.Statement.{statement}
 use Rattle.lines.proofs.put_numbers.Tie as tie
 

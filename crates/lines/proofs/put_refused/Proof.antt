@@ -1,7 +1,7 @@
 -- `lines::put_refused` meets its contract: its pieces, one after another. Assumes nothing.
 use borrow.Author.Needs.{needs}
 use Rattle.lines.specs.Lines.{refusedLine}
-use Rattle.lines.proofs.Laid.{laid-one, laid-cons}
+use Rattle.pieces.proofs.Laid.{laid-one, laid-cons}
 use borrow.Author.Needs.{needs}
 use Rattle.lines.proofs.put_refused.Statement.{statement}
 use Rattle.lines.proofs.put_refused.Tie as tie

@@ -1,14 +1,14 @@
 -- Pieces laid out in a buffer: that `putAll` goes on where it left off, and that a buffer with room for all pieces holds them all, one after another (`laid-all`). Assumes nothing.
 use mathlib.Core.Path.{_≡_, refl, sym, ap, ap₂, _∙_}
-use Prim.Native.Nat.{ℕ, zero, suc, _+_, _-_, _≤_, _<_, min}
+use Prim.Native.Nat.{ℕ, _+_, _≤_, _<_}
 use native.Mathlib.Omega.{arith}
 use mathlib.Core.List.{List, [], _∷_, _++_, append-assoc, append-nil}
-use lib.ListN.{length, getD, take, drop, take-append-drop, length-append, length-drop}
+use lib.ListN.{length, take, drop, take-append-drop, length-append, length-drop}
 use lib.Seq.{length-take-le, take-at, drop-at, drop-drop}
 use lib.Dec.{leb}
 use borrow.Author.Tests.{le-leb, lt-leb, leb-true, leb-false}
 use Rattle.matching.proofs.Tests.{by-test}
-use Rattle.lines.specs.Lines.{field, fields, Filled, put, putAll, Laid}
+use Rattle.pieces.specs.Pieces.{Filled, put, putAll, Laid}
 
 -- a piece fits, and it does not
 pub put-fits : (buffer : List ℕ) (at : ℕ) (piece : List ℕ) → at + length piece ≤ length buffer → put buffer at piece ≡ record { bytes = take at buffer ++ piece ++ drop (at + length piece) buffer; next = at + length piece }
@@ -60,23 +60,6 @@ module _ (buffer₀ : List ℕ) (at : ℕ) where
   laid-then first then {buffer} {buffer′} {r} {r′} l m =
       let e : putAll buffer r then ≡ putAll buffer₀ at (first ++ then) = ap₂ (λ (b : List ℕ) (n : ℕ). putAll b n then) (l .bytes) (l .next) ∙ sym (all-append buffer₀ at first then) in
       record { bytes = m .bytes ∙ ap (λ (f : Filled). f .bytes) e; next = m .next ∙ ap (λ (f : Filled). f .next) e }
-
--- the fields of one number more, and of all
-pub fields-next : (i : ℕ) (list : List ℕ) → i < length list → fields (suc i) list ≡ fields i list ++ (field (getD list i 0) ∷ [])
-unfolding fields
-fields-next i [] h = absurd (omega arith)
-fields-next zero (x ∷ list) h = refl
-fields-next (suc i) (x ∷ list) h = ap (λ (l : List (List ℕ)). field x ∷ l) (fields-next i list (omega arith))
-
-pub fields-none : (list : List ℕ) → fields 0 list ≡ []
-unfolding fields
-fields-none list = refl
-
-pub fields-min : (count : ℕ) (list : List ℕ) → fields (min count (length list)) list ≡ fields count list
-unfolding fields
-fields-min zero list = let e : min 0 (length list) ≡ 0 = omega arith in rw e
-fields-min (suc count) [] = let e : min (suc count) 0 ≡ 0 = omega arith in rw e
-fields-min (suc count) (x ∷ list) = let e : min (suc count) (suc (length list)) ≡ suc (min count (length list)) = omega arith in rw e (ap (λ (l : List (List ℕ)). field x ∷ l) (fields-min count list))
 
 -- ---- a buffer with room for all pieces holds them all, one after another, and keeps the rest
 

@@ -1,4 +1,4 @@
--- `lines::put_bytes` meets its contract. The loop's invariant: the first i bytes of the piece stand from `at` on. Assumes nothing.
+-- `pieces::put_bytes` meets its contract. The loop's invariant: the first i bytes of the piece stand from `at` on. Assumes nothing.
 use mathlib.Core.Path.{_≡_, refl, ap, _∙_}
 use Prim.Native.Nat.{ℕ, _+_, _-_, _≤_, _<_}
 use native.Mathlib.Omega.{arith}
@@ -6,10 +6,10 @@ use native.Mathlib.Numerals.{add-one}
 use mathlib.Core.List.{List, _++_}
 use lib.ListN.{length, take, drop, length-set}
 use lib.Seq.{paste, paste-zero, paste-suc, take-length}
-use Rattle.lines.specs.Lines.{put, Laid}
-use Rattle.lines.proofs.Laid.{put-fits, put-not}
-use Rattle.lines.proofs.put_bytes.Statement.{statement}
-use Rattle.lines.proofs.put_bytes.Tie as tie
+use Rattle.pieces.specs.Pieces.{put, Laid}
+use Rattle.pieces.proofs.Laid.{put-fits, put-not}
+use Rattle.pieces.proofs.put_bytes.Statement.{statement}
+use Rattle.pieces.proofs.put_bytes.Tie as tie
 
 abbrev Inv-loop : tie.InvT-loop
 Inv-loop buffer₀ at piece i₀ buffer i = (buffer ≡ paste buffer₀ at piece i) × ((i ≤ length piece) × ((at + length piece ≤ length buffer₀) × (length buffer ≡ length buffer₀)))

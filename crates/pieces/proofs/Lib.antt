@@ -1,0 +1,2 @@
+-- The laws of laying pieces out.
+pub mod Laid

@@ -1,0 +1,2 @@
+-- Laying pieces out.
+pub mod Pieces
