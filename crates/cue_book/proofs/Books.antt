@@ -1,0 +1,325 @@
+-- A book read cue by cue: the cases of `readUpTo`, what an accepted book's first cue is, where its titles stand, and what is known along a walk over it. Assumes nothing.
+use mathlib.Core.Path.{_≡_, refl, sym, ap, ap₂, _∙_}
+use Prim.Native.Nat.{ℕ, zero, suc, _+_, _-_, _≤_, _<_}
+use native.Mathlib.Omega.{arith}
+use native.Mathlib.Numerals.{add-one}
+use mathlib.Core.Bool.{Bool, true, false, cond}
+use mathlib.Core.List.{List, [], _∷_, _++_, append-nil}
+use lib.ListN.{length, getD, take, drop, length-drop, length-append}
+use lib.Seq.{drop-drop}
+use lib.Dec.{eqb, ltb}
+use borrow.Author.Tests.{eq-eqb, ne-eqb, eqb-true, eqb-false, lt-ltb, le-ltb, ltb-true, ltb-false}
+use Rattle.matching.proofs.Tests.{by-test}
+use Rattle.cue_book.specs.declared.Part.{Part}
+use Rattle.cue_book.specs.Format.{Cue}
+use Rattle.cue_book.specs.Reading.{numberIn, fieldLength, fieldSize, fieldBody, afterField, afterPhrase, afterOrdinal, afterCue, cueRefusal, cueSize, cueOf, Reading, refused, cues, followed, readUpTo, readBook, refusalOf, numberOf, cuesIn, titleAt}
+use Rattle.cue_book.specs.Places.{titleStart, cuePlace, titleIn, front, titlePart}
+use Rattle.cue_book.proofs.Cues.{Cued, cued, CueAt}
+
+-- ---- reading on from here, by its cases
+
+pub read-end : (more index : ℕ) (rest : List ℕ) → length rest ≡ 0 → readUpTo more index rest ≡ cues []
+unfolding readUpTo
+read-end zero index rest h = rw (eq-eqb (length rest) 0 h)
+read-end (suc more) index rest h = rw (eq-eqb (length rest) 0 h)
+
+pub read-over : (index : ℕ) (rest : List ℕ) → (length rest ≡ 0 → ⊥) → readUpTo 0 index rest ≡ refused 10 index
+unfolding readUpTo
+read-over index rest h = rw (ne-eqb (length rest) 0 h)
+
+pub read-refused : (more index : ℕ) (rest : List ℕ) {number : ℕ} → (length rest ≡ 0 → ⊥) → cueRefusal rest ≡ number → (number ≡ 0 → ⊥) → readUpTo (suc more) index rest ≡ refused number index
+unfolding readUpTo
+read-refused more index rest h e some = rw (ne-eqb (length rest) 0 h, ne-eqb (cueRefusal rest) 0 (λ z. some (sym e ∙ z))) (ap (λ (n : ℕ). refused n index) e)
+
+pub read-next : (more index : ℕ) (rest : List ℕ) → (length rest ≡ 0 → ⊥) → cueRefusal rest ≡ 0 → readUpTo (suc more) index rest ≡ followed (cueOf rest) (readUpTo more (suc index) (afterCue rest))
+unfolding readUpTo
+read-next more index rest h e = rw (ne-eqb (length rest) 0 h, eq-eqb (cueRefusal rest) 0 e)
+
+-- a cue that is read takes some bytes
+pub cue-some : (rest : List ℕ) → cueRefusal rest ≡ 0 → length rest ≡ 0 → ⊥
+cue-some rest e z = omega (arith, cued rest e .phrase .header)
+
+-- and no more than there are
+pub cue-inside : (rest : List ℕ) → cueRefusal rest ≡ 0 → cueSize rest ≤ length rest
+cue-inside rest e =
+    let c = cued rest e in
+    omega (arith, c .phrase .whole, c .ordinal .whole, c .title .whole, length-drop (fieldSize rest) rest, length-drop (fieldSize (afterPhrase rest)) (afterPhrase rest))
+
+-- ---- a reading that begins with a cue
+
+-- which of the two a reading is
+kind : Reading → ℕ
+kind (refused number index) = 1
+kind (cues cs) = 0
+
+pub not-both : {A : Type 0} {number index : ℕ} {cs : List Cue} → refused number index ≡ cues cs → A
+unfolding kind
+not-both e = let k : _≡_ {A = ℕ} 1 0 = ap kind e in absurd (omega arith)
+
+not-empty : {A : Type 0} {c : Cue} {cs : List Cue} → cues [] ≡ cues (c ∷ cs) → A
+not-empty {A} {c} {cs} e = let k : 0 ≡ suc (length cs) = ap (λ (r : Reading). length (cuesIn r)) e in absurd (omega arith)
+
+-- its first cue, or else that one, and the cues after it
+firstOr : Cue → Reading → Cue
+firstOr d (refused number index) = d
+firstOr d (cues []) = d
+firstOr d (cues (c ∷ cs)) = c
+
+later : Reading → List Cue
+later (refused number index) = []
+later (cues []) = []
+later (cues (c ∷ cs)) = cs
+
+followed-is : (c d : Cue) (cs : List Cue) (r : Reading) → followed c r ≡ cues (d ∷ cs) → (c ≡ d) × (r ≡ cues cs)
+unfolding firstOr later
+followed-is c d cs (refused number index) e = not-both e
+followed-is c d cs (cues ds) e = (ap (firstOr c) e, ap (λ (r : Reading). cues (later r)) e)
+
+pub record Begins (more index : ℕ) (rest : List ℕ) (c : Cue) (cs : List Cue) : Type 0 where
+  pub fewer : ℕ
+  pub fewer-is : more ≡ suc fewer
+  pub none : cueRefusal rest ≡ 0
+  pub cue : cueOf rest ≡ c
+  pub then : readUpTo fewer (suc index) (afterCue rest) ≡ cues cs
+
+pub begins : (more index : ℕ) (rest : List ℕ) (c : Cue) (cs : List Cue) → readUpTo more index rest ≡ cues (c ∷ cs) → Begins more index rest c cs
+begins zero index rest c cs e =
+    by-test (λ _. Begins zero index rest c cs) (eqb (length rest) 0)
+    (λ t. not-empty (sym (read-end zero index rest (eqb-true (length rest) 0 t)) ∙ e))
+    (λ t. not-both (sym (read-over index rest (eqb-false (length rest) 0 t)) ∙ e))
+begins (suc more) index rest c cs e =
+    by-test (λ _. Begins (suc more) index rest c cs) (eqb (length rest) 0)
+    (λ t. not-empty (sym (read-end (suc more) index rest (eqb-true (length rest) 0 t)) ∙ e))
+    (λ t.
+    let some = eqb-false (length rest) 0 t in
+    by-test (λ _. Begins (suc more) index rest c cs) (eqb (cueRefusal rest) 0)
+    (λ u.
+    let none = eqb-true (cueRefusal rest) 0 u in
+    let f = followed-is (cueOf rest) c cs (readUpTo more (suc index) (afterCue rest)) (sym (read-next more index rest some none) ∙ e) in
+    record { fewer = more; fewer-is = refl; none = none; cue = f .0; then = f .1 })
+    (λ u. not-both (sym (read-refused more index rest some refl (eqb-false (cueRefusal rest) 0 u)) ∙ e)))
+
+-- a reading with no cue is of no bytes
+pub ends : (more index : ℕ) (rest : List ℕ) → readUpTo more index rest ≡ cues [] → length rest ≡ 0
+ends zero index rest e =
+    by-test (λ _. length rest ≡ 0) (eqb (length rest) 0) (λ t. eqb-true (length rest) 0 t) (λ t. not-both (sym (read-over index rest (eqb-false (length rest) 0 t)) ∙ e))
+ends (suc more) index rest e =
+    by-test (λ _. length rest ≡ 0) (eqb (length rest) 0)
+    (λ t. eqb-true (length rest) 0 t)
+    (λ t.
+    let some = eqb-false (length rest) 0 t in
+    by-test (λ _. length rest ≡ 0) (eqb (cueRefusal rest) 0)
+    (λ u. not-followed (readUpTo more (suc index) (afterCue rest)) (sym (read-next more index rest some (eqb-true (cueRefusal rest) 0 u)) ∙ e))
+    (λ u. not-both (sym (read-refused more index rest some refl (eqb-false (cueRefusal rest) 0 u)) ∙ e)))
+  where
+    not-followed : {A : Type 0} (r : Reading) → followed (cueOf rest) r ≡ cues [] → A
+    not-followed (refused number index) e = not-both e
+    not-followed (cues cs) e = not-empty (sym e)
+
+-- a refused book's number is not 0
+pub refused-number : (more index : ℕ) (rest : List ℕ) {number at : ℕ} → readUpTo more index rest ≡ refused number at → number ≡ 0 → ⊥
+refused-number zero index rest {number} e z =
+    by-test (λ _. ⊥) (eqb (length rest) 0)
+    (λ t. not-both (sym e ∙ read-end zero index rest (eqb-true (length rest) 0 t)))
+    (λ t. omega (arith, ap refusalOf (sym (read-over index rest (eqb-false (length rest) 0 t)) ∙ e)))
+refused-number (suc more) index rest {number} {at} e z =
+    by-test (λ _. ⊥) (eqb (length rest) 0)
+    (λ t. not-both (sym e ∙ read-end (suc more) index rest (eqb-true (length rest) 0 t)))
+    (λ t.
+    let some = eqb-false (length rest) 0 t in
+    by-test (λ _. ⊥) (eqb (cueRefusal rest) 0)
+    (λ u. refused-number more (suc index) (afterCue rest) (later-refused (readUpTo more (suc index) (afterCue rest)) (sym (read-next more index rest some (eqb-true (cueRefusal rest) 0 u)) ∙ e)) z)
+    (λ u. let s = eqb-false (cueRefusal rest) 0 u in omega (arith, s, ap refusalOf (sym (read-refused more index rest some refl s) ∙ e))))
+  where
+    later-refused : (r : Reading) → followed (cueOf rest) r ≡ refused number at → r ≡ refused number at
+    later-refused (refused n i) e = e
+    later-refused (cues cs) e = not-both (sym e)
+
+-- ---- where cues and titles stand
+
+pub after-cue : (rest : List ℕ) → drop (cueSize rest) rest ≡ afterCue rest
+after-cue rest =
+    sym (drop-drop (fieldSize (afterPhrase rest) + fieldSize (afterOrdinal rest)) (fieldSize rest) rest)
+    ∙ sym (drop-drop (fieldSize (afterOrdinal rest)) (fieldSize (afterPhrase rest)) (afterPhrase rest))
+
+-- the first cue left out, the others stand where they did
+place-next : (rest : List ℕ) (k : ℕ) → cuePlace rest (suc k) ≡ cueSize rest + cuePlace (afterCue rest) k
+unfolding cuePlace
+place-next rest zero = omega arith
+place-next rest (suc k) =
+    let on = place-next rest k in
+    let p : ℕ = cuePlace (afterCue rest) k in
+    let here : drop (cuePlace rest (suc k)) rest ≡ drop p (afterCue rest) = ap (λ (n : ℕ). drop n rest) on ∙ sym (drop-drop p (cueSize rest) rest) ∙ ap (λ (l : List ℕ). drop p l) (after-cue rest) in
+    omega (arith, on, ap cueSize here)
+
+-- what is left at the cue of an index
+pub left-next : (rest : List ℕ) (k : ℕ) → drop (cuePlace rest (suc k)) rest ≡ drop (cuePlace (afterCue rest) k) (afterCue rest)
+left-next rest k = ap (λ (n : ℕ). drop n rest) (place-next rest k) ∙ sym (drop-drop (cuePlace (afterCue rest) k) (cueSize rest) rest) ∙ ap (λ (l : List ℕ). drop (cuePlace (afterCue rest) k) l) (after-cue rest)
+
+pub title-there : (k more index : ℕ) (rest : List ℕ) (cs : List Cue) → readUpTo more index rest ≡ cues cs → k < length cs → fieldBody (afterOrdinal (drop (cuePlace rest k) rest)) ≡ titleAt cs k
+unfolding titleAt cuePlace cueOf
+title-there k more index rest [] e h = absurd (omega arith)
+title-there zero more index rest (c ∷ cs) e h = ap (λ (d : Cue). d .title) (begins more index rest c cs e .cue)
+title-there (suc k) more index rest (c ∷ cs) e h =
+    let b = begins more index rest c cs e in
+    ap (λ (l : List ℕ). fieldBody (afterOrdinal l)) (left-next rest k) ∙ title-there k (b .fewer) (suc index) (afterCue rest) cs (b .then) (omega arith)
+
+-- the title's part of the book
+pub title-part : (book : List ℕ) (k : ℕ) → let p = titleIn book k in take (p .len) (drop (p .start) book) ≡ fieldBody (afterOrdinal (drop (cuePlace book k) book))
+title-part book k =
+    let rest : List ℕ = drop (cuePlace book k) book in
+    ap (λ (l : List ℕ). take (fieldLength (afterOrdinal rest)) l)
+    (sym (drop-drop (titleStart rest) (cuePlace book k) book) ∙ sym (drop-drop (fieldSize (afterPhrase rest) + 3) (fieldSize rest) rest) ∙ sym (drop-drop 3 (fieldSize (afterPhrase rest)) (afterPhrase rest)))
+
+-- ---- along a walk: the cues read so far, and the rest, are the whole book
+
+-- cues before what the rest reads as
+unfoldable pub followedAll : List Cue → Reading → Reading
+followedAll [] r = r
+followedAll (c ∷ cs) r = followed c (followedAll cs r)
+
+pub all-more : (done : List Cue) (c : Cue) (r : Reading) → followedAll (done ++ c ∷ []) r ≡ followedAll done (followed c r)
+unfolding followedAll
+all-more [] c r = refl
+all-more (d ∷ done) c r = ap (followed d) (all-more done c r)
+
+pub all-refused : (done : List Cue) (number index : ℕ) → followedAll done (refused number index) ≡ refused number index
+unfolding followedAll
+all-refused [] number index = refl
+all-refused (d ∷ done) number index = ap (followed d) (all-refused done number index)
+
+pub all-cues : (done cs : List Cue) → followedAll done (cues cs) ≡ cues (done ++ cs)
+unfolding followedAll
+all-cues [] cs = refl
+all-cues (d ∷ done) cs = ap (followed d) (all-cues done cs)
+
+pub record Along (book : List ℕ) (index place : ℕ) : Type 0 where
+  pub done : List Cue
+  pub counted : length done ≡ index
+  pub more : ℕ
+  pub left : more + index ≡ 999
+  pub whole : readBook book ≡ followedAll done (readUpTo more index (drop place book))
+  pub here : place ≡ cuePlace book index
+  pub inside : place ≤ length book
+
+pub along-first : (book : List ℕ) → Along book 0 0
+unfolding readBook followedAll cuePlace
+along-first book = record { done = []; counted = refl; more = 999; left = omega arith; whole = refl; here = refl; inside = omega arith }
+
+module _ {book : List ℕ} {index place : ℕ} (a : Along book index place) where
+  left-some : place < length book → length (drop place book) ≡ 0 → ⊥
+  left-some h z = omega (arith, length-drop place book)
+
+  -- bytes remain after 999 cues
+  pub along-over : place < length book → index ≡ 999 → readBook book ≡ refused 10 999
+  along-over h n =
+      let e : a .more ≡ 0 = omega (arith, a .left) in
+      a .whole ∙ ap (followedAll (a .done)) (ap₂ (λ (m i : ℕ). readUpTo m i (drop place book)) e n ∙ read-over 999 (drop place book) (left-some h)) ∙ all-refused (a .done) 10 999
+
+  -- the next cue is refused
+  pub along-refused : {number : ℕ} → place < length book → index < 999 → cueRefusal (drop place book) ≡ number → (number ≡ 0 → ⊥) → readBook book ≡ refused number index
+  along-refused {number} h n e some =
+      let m : a .more ≡ suc (a .more - 1) = omega (arith, a .left) in
+      a .whole ∙ ap (followedAll (a .done)) (ap (λ (m : ℕ). readUpTo m index (drop place book)) m ∙ read-refused (a .more - 1) index (drop place book) (left-some h) e some) ∙ all-refused (a .done) number index
+
+  -- the next cue is read
+  pub along-next : {next : ℕ} → place < length book → index < 999 → cueRefusal (drop place book) ≡ 0 → next ≡ place + cueSize (drop place book) → Along book (index + 1) next
+  unfolding cuePlace
+  along-next {next} h n e p =
+      let m : a .more ≡ suc (a .more - 1) = omega (arith, a .left) in
+      let c = cueOf (drop place book) in
+      let rest : drop next book ≡ afterCue (drop place book) = ap (λ (k : ℕ). drop k book) p ∙ sym (drop-drop (cueSize (drop place book)) place book) ∙ after-cue (drop place book) in
+      record {
+        done = a .done ++ c ∷ [];
+        counted = length-append (a .done) (c ∷ []) ∙ omega (arith, a .counted);
+        more = a .more - 1;
+        left = omega (arith, a .left);
+        whole =
+            a .whole ∙ ap (followedAll (a .done)) (ap (λ (m : ℕ). readUpTo m index (drop place book)) m ∙ read-next (a .more - 1) index (drop place book) (left-some h) e)
+            ∙ sym (all-more (a .done) c (readUpTo (a .more - 1) (suc index) (afterCue (drop place book))))
+            ∙ ap₂ (λ (i : ℕ) (l : List ℕ). followedAll (a .done ++ c ∷ []) (readUpTo (a .more - 1) i l)) (sym (add-one index)) (sym rest);
+        here = rw (add-one index) (p ∙ ap (λ (k : ℕ). k + cueSize (drop k book)) (a .here));
+        inside = omega (arith, p, cue-inside (drop place book) e, length-drop place book);
+      }
+
+  -- the book ends here
+  pub along-end : length book ≤ place → readBook book ≡ cues (a .done)
+  along-end h =
+      a .whole ∙ ap (followedAll (a .done)) (read-end (a .more) index (drop place book) (omega (arith, length-drop place book))) ∙ all-cues (a .done) [] ∙ ap cues (append-nil (a .done))
+
+-- ---- the wanted cue's title, noted along the walk
+
+-- the part so far: that of the wanted cue once it has been passed
+pub record Noted (book : List ℕ) (wanted index : ℕ) (p : Part) : Type 0 where
+  pub is : p ≡ cond (ltb wanted index) (titleIn book wanted) front
+
+pub noted-first : (book : List ℕ) (wanted : ℕ) → Noted book wanted 0 front
+noted-first book wanted = record { is = rw (le-ltb wanted 0 (omega arith)) }
+
+pub noted-other : {book : List ℕ} {wanted index : ℕ} {p : Part} → (index ≡ wanted → ⊥) → Noted book wanted index p → Noted book wanted (index + 1) p
+noted-other {book} {wanted} {index} {p} other n =
+    by-test (λ t. (ltb wanted index ≡ t) → Noted book wanted (index + 1) p) (ltb wanted index)
+    (λ _ e. record { is = n .is ∙ rw (e, lt-ltb wanted (index + 1) (omega (arith, ltb-true wanted index e))) })
+    (λ _ e. record { is = n .is ∙ rw (e, le-ltb wanted (index + 1) (past (ltb-false wanted index e))) })
+    refl
+  where
+    past : index ≤ wanted → index + 1 ≤ wanted
+    past h = by-test (λ _. index + 1 ≤ wanted) (eqb index wanted) (λ e. absurd (other (eqb-true index wanted e))) (λ e. omega (arith, eqb-false index wanted e))
+
+module _ {book : List ℕ} {index place phrase phrase-end ordinal title end : ℕ} (a : Along book index place) (c : CueAt book place phrase phrase-end ordinal title end) where
+  pub title-inside : title ≤ end
+  title-inside = omega (arith, c .title-is, c .end-is)
+
+  pub noted-this : {wanted : ℕ} → index ≡ wanted → Noted book wanted (index + 1) (record { start = title; len = end - title })
+  noted-this {wanted} e =
+      let here : cuePlace book wanted ≡ place = ap (cuePlace book) (sym e) ∙ sym (a .here) in
+      let start : title ≡ titleIn book wanted .start = c .title-is ∙ ap (λ (k : ℕ). k + titleStart (drop k book)) (sym here) in
+      let len : end - title ≡ fieldLength (afterOrdinal (drop place book)) = omega (arith, c .title-is, c .end-is) in
+      record { is = rw (lt-ltb wanted (index + 1) (omega arith)) (ap₂ (λ (s l : ℕ). record { start = s; len = l }) start (len ∙ ap (λ (k : ℕ). fieldLength (afterOrdinal (drop k book))) (sym here))) }
+
+-- what is shown in the end
+pub part-refused : (book : List ℕ) (wanted : ℕ) {number index : ℕ} → readBook book ≡ refused number index → titlePart book wanted ≡ front
+unfolding titlePart
+part-refused book wanted e = rw (e, le-ltb wanted 0 (omega arith))
+
+pub part-cues : (book : List ℕ) (wanted : ℕ) {cs : List Cue} → readBook book ≡ cues cs → titlePart book wanted ≡ cond (ltb wanted (length cs)) (titleIn book wanted) front
+unfolding titlePart
+part-cues book wanted e = rw e
+
+-- ---- the title that is shown
+
+-- a reading with cues is one of cues
+some-cues : (r : Reading) {k : ℕ} → k < length (cuesIn r) → r ≡ cues (cuesIn r)
+some-cues (refused number index) h = absurd (omega arith)
+some-cues (cues cs) h = refl
+
+title-past : (cs : List Cue) (k : ℕ) → length cs ≤ k → titleAt cs k ≡ []
+unfolding titleAt
+title-past [] k h = refl
+title-past (c ∷ cs) zero h = absurd (omega arith)
+title-past (c ∷ cs) (suc k) h = title-past cs k (omega arith)
+
+-- a cue of an accepted book lies in it
+place-inside : (k more index : ℕ) (rest : List ℕ) (cs : List Cue) → readUpTo more index rest ≡ cues cs → k < length cs → cuePlace rest k + cueSize (drop (cuePlace rest k) rest) ≤ length rest
+unfolding cuePlace
+place-inside k more index rest [] e h = absurd (omega arith)
+place-inside zero more index rest (c ∷ cs) e h = omega (arith, cue-inside rest (begins more index rest c cs e .none))
+place-inside (suc k) more index rest (c ∷ cs) e h =
+    let b = begins more index rest c cs e in
+    let size : length (afterCue rest) ≡ length rest - cueSize rest = ap length (sym (after-cue rest)) ∙ length-drop (cueSize rest) rest in
+    omega (arith, place-next rest k, ap cueSize (left-next rest k), place-inside k (b .fewer) (suc index) (afterCue rest) cs (b .then) (omega arith), cue-inside rest (b .none), size)
+
+-- the part that is shown lies in the book, and holds the title
+pub record Shows (book : List ℕ) (k : ℕ) (p : Part) : Type 0 where
+  pub inside : p .start + p .len ≤ length book
+  pub holds : take (p .len) (drop (p .start) book) ≡ titleAt (cuesIn (readBook book)) k
+
+pub title-shows : (book : List ℕ) (k : ℕ) → Shows book k (titlePart book k)
+unfolding titlePart readBook
+title-shows book k =
+    by-test (λ t. Shows book k (cond t (titleIn book k) front)) (ltb k (length (cuesIn (readBook book))))
+    (λ t.
+    let h = ltb-true k (length (cuesIn (readBook book))) t in
+    let e : readUpTo 999 0 book ≡ cues (cuesIn (readBook book)) = some-cues (readBook book) h in
+    record { inside = omega (arith, place-inside k 999 0 book (cuesIn (readBook book)) e h); holds = title-part book k ∙ title-there k 999 0 book (cuesIn (readBook book)) e h })
+    (λ t. record { inside = omega arith; holds = sym (title-past (cuesIn (readBook book)) k (ltb-false k (length (cuesIn (readBook book))) t)) })

@@ -1,0 +1,15 @@
+-- `cue_book::first` meets its contract. Assumes nothing.
+use borrow.Author.Needs.{needs}
+use mathlib.Core.Path.{sym}
+use lib.Seq.{length-take-le}
+use Rattle.cue_book.proofs.first.Statement.{statement}
+use Rattle.cue_book.proofs.first.Tie as tie
+
+slice-aggregate-result : tie.Need-slice-aggregate-result
+slice-aggregate-result c = sym (length-take-le (c .before .args .len) (c .before .args .bytes .now) (c .before .pre))
+
+returns : tie.Need-returns
+returns c = search needs
+
+pub first-spec : {M : Type 1} → statement M
+first-spec = tie.close (tie.spec slice-aggregate-result returns)

@@ -1,0 +1,103 @@
+-- Where fields, cues and titles stand in a book, and what the reading functions promise.
+use mathlib.Core.Path.{_≡_}
+use Prim.Native.Nat.{ℕ, zero, suc, _+_, _-_}
+use mathlib.Core.Bool.{cond}
+use mathlib.Core.List.{List, [], _∷_}
+use lib.ListN.{length, take, drop}
+use lib.Dec.{eqb, ltb}
+use Rattle.cue_book.specs.declared.Due.{Due}
+use Rattle.cue_book.specs.declared.FieldAnswer.{FieldAnswer}
+use Rattle.cue_book.specs.declared.FieldAnswer.the-variants as field
+use Rattle.cue_book.specs.declared.CueAnswer.{CueAnswer}
+use Rattle.cue_book.specs.declared.CueAnswer.the-variants as entry
+use Rattle.cue_book.specs.declared.Answer.{Answer}
+use Rattle.cue_book.specs.declared.Part.{Part}
+use Rattle.cue_book.specs.Format.{Cue}
+use Rattle.cue_book.specs.Reading.{numberIn, fieldLength, fieldSize, fieldBody, fieldRefusal, afterPhrase, afterOrdinal, cueRefusal, cueSize, cueOf, readBook, refusalOf, numberOf, cuesIn, titleAt}
+
+-- the bytes of a book from a start up to an end
+abbrev pub part : List ℕ → ℕ → ℕ → List ℕ
+part book start end = take (end - start) (drop start book)
+
+-- ---- a field
+
+-- the refusal's number of an answer, 0 for a field
+abbrev pub fieldNumber : FieldAnswer → ℕ
+fieldNumber (field.Body start end) = 0
+fieldNumber (field.Refused number) = number
+
+-- the answer at a place: the body starts after the header's three bytes
+unfoldable pub fieldAt : List ℕ → ℕ → Due → FieldAnswer
+unfolding fieldRefusal numberIn
+fieldAt book place due =
+    cond (eqb (fieldRefusal due (drop place book)) 0)
+    (field.Body (place + 3) (place + fieldSize (drop place book)))
+    (field.Refused (fieldRefusal due (drop place book)))
+
+-- what is read there, and its number in document 01
+pub record FieldRead (book : List ℕ) (place : ℕ) (due : Due) (r : FieldAnswer) : Type 0 where
+  pub answer : r ≡ fieldAt book place due
+  pub number : fieldNumber r ≡ fieldRefusal due (drop place book)
+
+-- ---- a cue
+
+-- the refusal's number of an answer, 0 for a cue
+abbrev pub cueNumber : CueAnswer → ℕ
+cueNumber (entry.Cue phrase phrase-end ordinal title end) = 0
+cueNumber (entry.Refused number) = number
+
+-- the cue that an answer means: its phrase and its title are parts of the book. A refusal means none
+abbrev pub cuesMeant : List ℕ → CueAnswer → List Cue
+cuesMeant book (entry.Cue phrase phrase-end ordinal title end) = record { phrase = part book phrase phrase-end; ordinal = ordinal; title = part book title end } ∷ []
+cuesMeant book (entry.Refused number) = []
+
+-- where a cue's title starts, from the cue on: after two fields and the header of the third
+abbrev pub titleStart : List ℕ → ℕ
+titleStart rest = fieldSize rest + (fieldSize (afterPhrase rest) + 3)
+
+-- the answer at a place
+unfoldable pub cueAt : List ℕ → ℕ → CueAnswer
+unfolding cueRefusal numberIn
+cueAt book place =
+    cond (eqb (cueRefusal (drop place book)) 0)
+    (entry.Cue (place + 3) (place + fieldSize (drop place book)) (numberIn (fieldBody (afterPhrase (drop place book)))) (place + titleStart (drop place book)) (place + cueSize (drop place book)))
+    (entry.Refused (cueRefusal (drop place book)))
+
+-- what is read there, its number in document 01, and the cue that it means
+pub record CueRead (book : List ℕ) (place : ℕ) (r : CueAnswer) : Type 0 where
+  pub answer : r ≡ cueAt book place
+  pub number : cueNumber r ≡ cueRefusal (drop place book)
+  pub meant : cuesMeant book r ≡ cond (eqb (cueRefusal (drop place book)) 0) (cueOf (drop place book) ∷ []) []
+
+-- ---- a book
+
+-- what a book read gives back
+abbrev pub bookAnswer : List ℕ → Answer
+bookAnswer book = record { refusal = refusalOf (readBook book); number = numberOf (readBook book) }
+
+-- ---- a title
+
+-- where the cue of that index begins: after the one before it
+unfoldable pub cuePlace : List ℕ → ℕ → ℕ
+unfolding numberIn
+cuePlace book zero = 0
+cuePlace book (suc index) = cuePlace book index + cueSize (drop (cuePlace book index) book)
+
+-- where its title stands
+abbrev pub titleIn : List ℕ → ℕ → Part
+titleIn book index =
+    record { start = cuePlace book index + titleStart (drop (cuePlace book index) book); len = fieldLength (afterOrdinal (drop (cuePlace book index) book)) }
+
+-- the empty part at the book's front
+abbrev pub front : Part
+front = record { start = 0; len = 0 }
+
+-- where a title is shown: the empty part at the front where the book is refused or lacks the cue
+unfoldable pub titlePart : List ℕ → ℕ → Part
+unfolding readBook cuePlace
+titlePart book index = cond (ltb index (length (cuesIn (readBook book)))) (titleIn book index) front
+
+-- the part, and that the title of that cue is what stands there
+pub record TitlePlaced (book : List ℕ) (index : ℕ) (r : Part) : Type 0 where
+  pub answer : r ≡ titlePart book index
+  pub shows : take (r .len) (drop (r .start) book) ≡ titleAt (cuesIn (readBook book)) index
