@@ -1,6 +1,6 @@
 -- The starred cases of document 01, "Refrains to try": one table, and what it means for a row to hold.
 use Prim.Native.Nat.{ℕ, suc, _-_}
-use mathlib.Core.Bool.{Bool, true, cond, _&&_}
+use mathlib.Core.Bool.{Bool, true, false, cond, _&&_}
 use mathlib.Core.List.{List, [], _∷_}
 use lib.Dec.{eqb}
 use Rattle.matching.specs.Occurrences.{same, occurrences}
@@ -11,6 +11,8 @@ use Rattle.shifts.specs.BadCharacter.{lastIn, sundayTable, horspoolTable}
 use Rattle.shifts.specs.Kmp.{kmpEntry, kmpTable}
 use Rattle.fjs.specs.Fjs.{window, fjs}
 use Rattle.fold.specs.Fold.{folded}
+use Rattle.cue_book.specs.Format.{Cue, cueWith, bookBytes}
+use Rattle.cue_book.specs.Reading.{Reading, refused, cues, readBook}
 
 -- a row: what is asked, and the answer that document 01 gives
 pub data Case : Type 0 where
@@ -23,6 +25,8 @@ pub data Case : Type 0 where
   find : Engine → List ℕ → List ℕ → List ℕ → ℕ → Case
   -- a letter, and what it folds to
   fold : ℕ → ℕ → Case
+  -- a book's bytes, and the cues that it reads as
+  book : List ℕ → List Cue → Case
 
 -- the entry given to a letter, or the entry of the others
 unfoldable pub given : List ℕ → List ℕ → ℕ → ℕ → ℕ
@@ -35,14 +39,29 @@ unfoldable pub movesFrom : ℕ → List ℕ → List ℕ
 movesFrom q [] = []
 movesFrom q (b ∷ entries) = (suc q - b) ∷ movesFrom (suc q) entries
 
+-- the same cues, field by field
+unfoldable pub sameCues : List Cue → List Cue → Bool
+unfolding same
+sameCues [] [] = true
+sameCues [] (d ∷ ds) = false
+sameCues (c ∷ cs) [] = false
+sameCues (c ∷ cs) (d ∷ ds) = same (c .phrase) (d .phrase) && eqb (c .ordinal) (d .ordinal) && same (c .title) (d .title) && sameCues cs ds
+
+-- a reading of exactly these cues
+unfoldable pub readsAs : Reading → List Cue → Bool
+unfolding sameCues
+readsAs (refused number index) expected = false
+readsAs (cues cs) expected = sameCues cs expected
+
 -- a row holds: the definitions give its answer
 unfoldable pub holds : Case → Bool
-unfolding same tabulate lastIn kmpEntry given movesFrom occurrences runFrom positionsIn compared window folded
+unfolding same tabulate lastIn kmpEntry given movesFrom occurrences runFrom positionsIn compared window folded readsAs readBook bookBytes
 holds (kmp P entries moves) = same (kmpTable P) entries && same (movesFrom 0 (kmpTable P)) moves
 holds (sunday P letters entries others) = same (sundayTable P) (tabulate 256 (given letters entries others))
 holds (horspool P letters entries others) = same (horspoolTable P) (tabulate 256 (given letters entries others))
 holds (find e P T positions comparisons) = same (occurrences P T) positions && same (positionsIn (run (e .steps) P T)) positions && eqb (compared e P T) comparisons
 holds (fold letter small) = eqb (folded letter) small
+holds (book bytes cs) = readsAs (readBook bytes) cs && same (bookBytes cs) bytes
 
 -- every row holds
 unfoldable pub allHold : List Case → Bool
@@ -59,6 +78,15 @@ b = 98
 
 abbrev c : ℕ
 c = 99
+
+abbrev l : ℕ
+l = 108
+
+abbrev N : ℕ
+N = 78
+
+abbrev o : ℕ
+o = 111
 
 abbrev abaaca : List ℕ
 abaaca = a ∷ b ∷ a ∷ a ∷ c ∷ a ∷ []
@@ -80,4 +108,7 @@ cases =
     ∷ fold 0xD7 0xD7
     ∷ fold 0xDF 0xDF
     ∷ fold 0xFF 0xFF
+    ∷ book
+    (0x01 ∷ 0x00 ∷ 0x02 ∷ 0x6C ∷ 0x61 ∷ 0x02 ∷ 0x00 ∷ 0x02 ∷ 0x00 ∷ 0x02 ∷ 0x03 ∷ 0x00 ∷ 0x02 ∷ 0x4E ∷ 0x6F ∷ [])
+    (cueWith (l ∷ a ∷ []) 2 (N ∷ o ∷ []) ∷ [])
     ∷ []

@@ -3,18 +3,19 @@ use mathlib.Core.Path.{_≡_, refl, sym, ap, ap₂, _∙_}
 use Prim.Native.Nat.{ℕ, zero, suc, _+_, _-_, _≤_, _<_}
 use native.Mathlib.Omega.{arith}
 use native.Mathlib.Numerals.{add-one}
-use mathlib.Core.Bool.{Bool, true, false, cond}
+use mathlib.Core.Bool.{true, false, cond}
 use mathlib.Core.List.{List, [], _∷_, _++_, append-nil}
-use lib.ListN.{length, getD, take, drop, length-drop, length-append}
+use lib.ListN.{length, take, drop, length-drop, length-append}
 use lib.Seq.{drop-drop}
 use lib.Dec.{eqb, ltb}
 use borrow.Author.Tests.{eq-eqb, ne-eqb, eqb-true, eqb-false, lt-ltb, le-ltb, ltb-true, ltb-false}
 use Rattle.matching.proofs.Tests.{by-test}
+use Rattle.cue_fields.specs.Field.{fieldLength, fieldSize, fieldBody}
 use Rattle.cue_book.specs.declared.Part.{Part}
 use Rattle.cue_book.specs.Format.{Cue}
-use Rattle.cue_book.specs.Reading.{numberIn, fieldLength, fieldSize, fieldBody, afterField, afterPhrase, afterOrdinal, afterCue, cueRefusal, cueSize, cueOf, Reading, refused, cues, followed, readUpTo, readBook, refusalOf, numberOf, cuesIn, titleAt}
+use Rattle.cue_book.specs.Reading.{afterPhrase, afterOrdinal, afterCue, cueRefusal, cueSize, cueOf, Reading, refused, cues, followed, readUpTo, readBook, refusalOf, cuesIn, titleAt}
 use Rattle.cue_book.specs.Places.{titleStart, cuePlace, titleIn, front, titlePart}
-use Rattle.cue_book.proofs.Cues.{Cued, cued, CueAt}
+use Rattle.cue_book.proofs.Cues.{cued, CueAt}
 
 -- ---- reading on from here, by its cases
 

@@ -1,6 +1,3 @@
--- The laws of the cue book.
-pub mod Fields
+-- The laws of cues and books.
 pub mod Cues
 pub mod Books
-pub mod Writing
-pub mod Inverse

@@ -1,7 +1,8 @@
 -- The cue book's format (document 01, "Cue book, folding, lines"): a cue as a value, its bytes, and a book's bytes.
-use Prim.Native.Nat.{ℕ, _/_, _%_, _≤_}
+use Prim.Native.Nat.{ℕ, _≤_}
 use mathlib.Core.List.{List, [], _∷_, _++_}
 use lib.ListN.{length}
+use Rattle.cue_fields.specs.Field.{twoBytes, fieldBytes}
 
 -- a cue: the phrase, which of its occurrences is meant (1 is the first), and the title to show
 pub record Cue : Type 0 where
@@ -11,14 +12,6 @@ pub record Cue : Type 0 where
 
 abbrev pub cueWith : List ℕ → ℕ → List ℕ → Cue
 cueWith phrase ordinal title = record { phrase = phrase; ordinal = ordinal; title = title }
-
--- a number in two bytes, high byte first
-abbrev pub twoBytes : ℕ → List ℕ
-twoBytes n = n / 256 ∷ n % 256 ∷ []
-
--- a field: a one-byte tag, a two-byte length and the body
-abbrev pub fieldBytes : ℕ → List ℕ → List ℕ
-fieldBytes tag body = tag ∷ (twoBytes (length body) ++ body)
 
 -- a cue: tag 0x01 phrase, 0x02 ordinal, 0x03 title, in that order
 unfoldable pub cueBytes : Cue → List ℕ

@@ -1,43 +1,21 @@
--- Where fields, cues and titles stand in a book, and what the reading functions promise.
+-- Where cues and titles stand in a book, and what the reading functions promise.
 use mathlib.Core.Path.{_≡_}
 use Prim.Native.Nat.{ℕ, zero, suc, _+_, _-_}
 use mathlib.Core.Bool.{cond}
 use mathlib.Core.List.{List, [], _∷_}
 use lib.ListN.{length, take, drop}
 use lib.Dec.{eqb, ltb}
-use Rattle.cue_book.specs.declared.Due.{Due}
-use Rattle.cue_book.specs.declared.FieldAnswer.{FieldAnswer}
-use Rattle.cue_book.specs.declared.FieldAnswer.the-variants as field
+use Rattle.cue_fields.specs.Field.{numberIn, fieldLength, fieldSize, fieldBody}
 use Rattle.cue_book.specs.declared.CueAnswer.{CueAnswer}
 use Rattle.cue_book.specs.declared.CueAnswer.the-variants as entry
 use Rattle.cue_book.specs.declared.Answer.{Answer}
 use Rattle.cue_book.specs.declared.Part.{Part}
 use Rattle.cue_book.specs.Format.{Cue}
-use Rattle.cue_book.specs.Reading.{numberIn, fieldLength, fieldSize, fieldBody, fieldRefusal, afterPhrase, afterOrdinal, cueRefusal, cueSize, cueOf, readBook, refusalOf, numberOf, cuesIn, titleAt}
+use Rattle.cue_book.specs.Reading.{afterPhrase, afterOrdinal, cueRefusal, cueSize, cueOf, readBook, refusalOf, numberOf, cuesIn, titleAt}
 
 -- the bytes of a book from a start up to an end
 abbrev pub part : List ℕ → ℕ → ℕ → List ℕ
 part book start end = take (end - start) (drop start book)
-
--- ---- a field
-
--- the refusal's number of an answer, 0 for a field
-abbrev pub fieldNumber : FieldAnswer → ℕ
-fieldNumber (field.Body start end) = 0
-fieldNumber (field.Refused number) = number
-
--- the answer at a place: the body starts after the header's three bytes
-unfoldable pub fieldAt : List ℕ → ℕ → Due → FieldAnswer
-unfolding fieldRefusal numberIn
-fieldAt book place due =
-    cond (eqb (fieldRefusal due (drop place book)) 0)
-    (field.Body (place + 3) (place + fieldSize (drop place book)))
-    (field.Refused (fieldRefusal due (drop place book)))
-
--- what is read there, and its number in document 01
-pub record FieldRead (book : List ℕ) (place : ℕ) (due : Due) (r : FieldAnswer) : Type 0 where
-  pub answer : r ≡ fieldAt book place due
-  pub number : fieldNumber r ≡ fieldRefusal due (drop place book)
 
 -- ---- a cue
 

@@ -1,63 +1,12 @@
--- What reading gives on every byte string (document 01, "Cue book, folding, lines"), with the tests in the document's order. `rest` is what is left of the book at a field, or at a cue.
-use Prim.Native.Nat.{ℕ, zero, suc, _+_, _*_}
-use mathlib.Core.Bool.{Bool, false, cond, not, _&&_}
+-- What reading gives on every byte string (document 01, "Cue book, folding, lines"), with the tests in the document's order. `rest` is what is left of the book at a cue.
+use Prim.Native.Nat.{ℕ, zero, suc, _+_}
+use mathlib.Core.Bool.{cond}
 use mathlib.Core.List.{List, [], _∷_}
-use lib.ListN.{length, getD, take, drop}
-use lib.Dec.{eqb, ltb, leb}
-use Rattle.cue_book.specs.declared.Due.{Due}
-use Rattle.cue_book.specs.declared.Due.the-variants.{Phrase, Ordinal, Title}
+use lib.ListN.{length}
+use lib.Dec.{eqb}
+use Rattle.cue_fields.specs.declared.Due.the-variants.{Phrase, Ordinal, Title}
+use Rattle.cue_fields.specs.Field.{numberIn, fieldSize, fieldBody, afterField, fieldRefusal}
 use Rattle.cue_book.specs.Format.{Cue}
-
--- ---- a field
-
--- its tag
-abbrev pub tagOf : Due → ℕ
-tagOf Phrase = 1
-tagOf Ordinal = 2
-tagOf Title = 3
-
--- the lengths that its body may have
-abbrev pub allowed : Due → ℕ → Bool
-allowed Phrase n = leb 1 n && leb n 1024
-allowed Ordinal n = eqb n 2
-allowed Title n = leb n 200
-
--- the number whose two bytes stand at the front, high byte first
-unfoldable pub numberIn : List ℕ → ℕ
-numberIn bytes = 256 * getD bytes 0 0 + getD bytes 1 0
-
--- the length that a field's header gives, its body, the bytes that it takes, and what is left after it
-abbrev pub fieldLength : List ℕ → ℕ
-fieldLength rest = numberIn (drop 1 rest)
-
-abbrev pub fieldBody : List ℕ → List ℕ
-fieldBody rest = take (fieldLength rest) (drop 3 rest)
-
-abbrev pub fieldSize : List ℕ → ℕ
-fieldSize rest = 3 + fieldLength rest
-
-abbrev pub afterField : List ℕ → List ℕ
-afterField rest = drop (fieldSize rest) rest
-
--- an ordinal of 0
-abbrev pub ordinalZero : Due → List ℕ → Bool
-ordinalZero Phrase body = false
-ordinalZero Ordinal body = eqb (numberIn body) 0
-ordinalZero Title body = false
-
--- the last two tests, of the bytes from the body onward: body present (7), ordinal not 0 (9)
-unfoldable pub bodyRefusal : Due → ℕ → List ℕ → ℕ
-unfolding numberIn
-bodyRefusal due n bytes = cond (ltb (length bytes) n) 7 (cond (ordinalZero due bytes) 9 0)
-
--- the refusal of a field, 0 for none: three header bytes present (7), tag (8), length (9), and the tests of the body
-unfoldable pub fieldRefusal : Due → List ℕ → ℕ
-unfolding numberIn bodyRefusal
-fieldRefusal due rest =
-    cond (ltb (length rest) 3) 7
-    (cond (eqb (getD rest 0 0) (tagOf due))
-    (cond (allowed due (fieldLength rest)) (bodyRefusal due (fieldLength rest) (drop 3 rest)) 9)
-    8)
 
 -- ---- a cue: its three fields
 

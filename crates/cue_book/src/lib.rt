@@ -1,30 +1,13 @@
-// The room of the cue book (document 01, "Cue book, folding, lines"): reading fields, cues and whole books, showing a title, and writing a cue.
-// It leans on `pieces` for laying a cue's bytes out, and on `matching` for case analysis.
-// Demand 2 is carried by proofs/Inverse.antt: what is written reads back (`written-reads`), and what is accepted was so written (`accepted-written`).
+// The room of the cue book (document 01, "Cue book, folding, lines"): reading cues and whole books, and showing a title.
+// It leans on `cue_fields` for a field, and on `matching` for case analysis. `cue_writer` writes a cue, and has the theorems that reading and writing are inverse.
+use cue_fields::Due;
+use cue_fields::FieldAnswer;
 ghost use mathlib.Core.Path.{_≡_};
-ghost use mathlib.Core.Bool.{true};
 ghost use Prim.Native.Nat.{_≤_};
 ghost use lib.ListN.{length, take};
-ghost use lib.Dec.{eqb};
-ghost use Rattle.cue_book.specs.Format.{cueWith};
-ghost use Rattle.pieces.specs.Pieces.{Laid, putAll};
-ghost use Rattle.cue_book.specs.Reading.{tagOf, allowed, numberIn, bodyRefusal, readBook, cuesIn, titleAt};
-ghost use Rattle.cue_book.specs.Places.{fieldNumber, FieldRead, cueNumber, CueRead, bookAnswer, TitlePlaced};
+ghost use Rattle.cue_book.specs.Reading.{readBook, cuesIn, titleAt};
+ghost use Rattle.cue_book.specs.Places.{cueNumber, CueRead, bookAnswer, TitlePlaced};
 ghost use Rattle.cue_book.specs.Walking.{Walked};
-ghost use Rattle.cue_book.specs.Writing.{writeRefusal, Written, fieldPieces};
-
-// Which field of a cue is due.
-pub enum Due {
-    Phrase,
-    Ordinal,
-    Title,
-}
-
-// What reading a field gives: its body stands from `start` up to `end`, which is the place after the field; or the refusal's number.
-pub enum FieldAnswer {
-    Body { start: usize, end: usize },
-    Refused(u32),
-}
 
 // What reading a cue gives: its phrase and its title as the parts of the book where they stand, its ordinal, and the place after it, where the title ends; or the refusal's number.
 pub enum CueAnswer {
@@ -60,116 +43,31 @@ struct Seen {
     len: usize,
 }
 
-// Whether a byte is the tag of the field that is due.
-fn is_tag(due: Due, byte: u8) -> bool
-    ensures { λ r. ⌜ r ≡ eqb byte (tagOf due) ⌝ }
-{
-    match due {
-        Due::Phrase => byte == 1,
-        Due::Ordinal => byte == 2,
-        Due::Title => byte == 3,
-    }
-}
-
-// Whether a field's body may have this length.
-fn is_allowed(due: Due, length: usize) -> bool
-    ensures { λ r. ⌜ r ≡ allowed due length ⌝ }
-{
-    match due {
-        Due::Phrase => 1 <= length && length <= 1024,
-        Due::Ordinal => length == 2,
-        Due::Title => length <= 200,
-    }
-}
-
-// The number whose two bytes stand at the front, high byte first.
-fn number_at(bytes: &[u8]) -> usize
-    requires { ⌜ 2 ≤ length (now bytes) ⌝ }
-    ensures { λ r. ⌜ r ≡ numberIn (now (bytes .entry)) ⌝ }
-    ensures fits { λ r. ⌜ r ≤ 65535 ⌝ }
-{
-    256 * (bytes[0] as usize) + bytes[1] as usize
-}
-
-// The tests of the bytes from a field's body onward: the body is present, and an ordinal is not 0.
-fn body_refusal(bytes: &[u8], due: Due, length: usize) -> u32
-    requires { ⌜ allowed due length ≡ true ⌝ }
-    ensures { λ r. ⌜ r ≡ bodyRefusal due length (now (bytes .entry)) ⌝ }
-{
-    if bytes.len() < length {
-        return 7;
-    }
-    let Due::Ordinal = due else {
-        return 0;
-    };
-    if number_at(bytes) == 0 {
-        return 9;
-    }
-    0
-}
-
-// Reads the field that is due at a place of a book. A place past the book's end, however large, has no byte of a field.
-pub fn read_field(book: &[u8], place: usize, due: Due) -> FieldAnswer
-    ensures { λ r. ⌜ FieldRead (now (book .entry)) place due r ⌝ }
-{
-    if book.len() < place {
-        return FieldAnswer::Refused(7);
-    }
-    let rest = &book[place..];
-    if rest.len() < 3 {
-        return FieldAnswer::Refused(7);
-    }
-    if !is_tag(due, rest[0]) {
-        return FieldAnswer::Refused(8);
-    }
-    let length = number_at(&rest[1..]);
-    if !is_allowed(due, length) {
-        return FieldAnswer::Refused(9);
-    }
-    let refusal = body_refusal(&rest[3..], due, length);
-    if refusal != 0 {
-        return FieldAnswer::Refused(refusal);
-    }
-    let start = place + 3;
-    let end = start + length;
-    FieldAnswer::Body { start, end }
-}
-
-// The refusal's number of a field's answer, 0 for a field.
-fn field_number(answer: FieldAnswer) -> u32
-    ensures { λ r. ⌜ r ≡ fieldNumber answer ⌝ }
-{
-    match answer {
-        FieldAnswer::Body { start: _, end: _ } => 0,
-        FieldAnswer::Refused(number) => number,
-    }
-}
-
 // Reads the cue at a place of a book: its three fields in their order, the first refusal leaving at the spot.
 pub fn read_cue(book: &[u8], place: usize) -> CueAnswer
     ensures { λ r. ⌜ CueRead (now (book .entry)) place r ⌝ }
 {
-    let first = read_field(book, place, Due::Phrase);
+    let first = cue_fields::read_field(book, place, Due::Phrase);
     let FieldAnswer::Body {
         start: phrase,
         end: phrase_end,
     } = first
     else {
-        return CueAnswer::Refused(field_number(first));
+        return CueAnswer::Refused(cue_fields::field_number(first));
     };
-    let second = read_field(book, phrase_end, Due::Ordinal);
+    let second = cue_fields::read_field(book, phrase_end, Due::Ordinal);
     let FieldAnswer::Body {
         start: body,
         end: ordinal_end,
     } = second
     else {
-        return CueAnswer::Refused(field_number(second));
+        return CueAnswer::Refused(cue_fields::field_number(second));
     };
-    let third = read_field(book, ordinal_end, Due::Title);
+    let third = cue_fields::read_field(book, ordinal_end, Due::Title);
     let FieldAnswer::Body { start: title, end } = third else {
-        return CueAnswer::Refused(field_number(third));
+        return CueAnswer::Refused(cue_fields::field_number(third));
     };
-    let ordinal = number_at(&book[body..]) as u32;
+    let ordinal = cue_fields::number_at(&book[body..]) as u32;
     CueAnswer::Cue {
         phrase,
         phrase_end,
@@ -281,59 +179,4 @@ pub fn title(book: &[u8], cue: u32) -> &[u8]
     let start = p.start;
     let len = p.len;
     first(&book[start..], len)
-}
-
-// The refusal of a cue to be written into so many bytes, 0 for none.
-fn write_refusal(phrase: &[u8], ordinal: u32, title: &[u8], room: usize) -> u32
-    ensures { λ r. ⌜ r ≡ writeRefusal (cueWith (now (phrase .entry)) ordinal (now (title .entry))) room ⌝ }
-{
-    if phrase.len() == 0 {
-        return 2;
-    }
-    if 1024 < phrase.len() {
-        return 3;
-    }
-    if ordinal == 0 {
-        return 9;
-    }
-    if 65535 < ordinal {
-        return 9;
-    }
-    if 200 < title.len() {
-        return 9;
-    }
-    if room < 11 + phrase.len() + title.len() {
-        return 13;
-    }
-    0
-}
-
-// Lays a field out in the buffer from `at` on: where the next one goes.
-fn put_field(buffer: &mut [u8], at: usize, tag: u8, body: &[u8]) -> usize
-    requires { ⌜ length (now body) ≤ 65535 ⌝ }
-    ensures { λ r. ⌜ Laid (now (buffer .exit)) r (putAll (now (buffer .entry)) at (fieldPieces tag (now (body .entry)))) ⌝ }
-{
-    let length = body.len();
-    let header = [tag, (length / 256) as u8, (length % 256) as u8];
-    let next = pieces::put_bytes(buffer, at, &header);
-    pieces::put_bytes(buffer, next, body)
-}
-
-// Writes a cue at the buffer's start: 0 and its length, or the refusal and 0.
-pub fn write_cue(buffer: &mut [u8], phrase: &[u8], ordinal: u32, title: &[u8]) -> Answer
-    ensures { λ r. ⌜ Written (cueWith (now (phrase .entry)) ordinal (now (title .entry))) (now (buffer .entry)) r (now (buffer .exit)) ⌝ }
-{
-    let refusal = write_refusal(phrase, ordinal, title, buffer.len());
-    if refusal != 0 {
-        return Answer { refusal, number: 0 };
-    }
-    let number = [(ordinal / 256) as u8, (ordinal % 256) as u8];
-    let mut at = put_field(buffer, 0, 1, phrase);
-    at = put_field(buffer, at, 2, &number);
-    at = put_field(buffer, at, 3, title);
-    let length = at as u32;
-    Answer {
-        refusal: 0,
-        number: length,
-    }
 }

@@ -1,13 +1,14 @@
 -- `cue_book::read_cue` meets its contract: each answer is taken apart, and a refusal leaves with its number. Assumes nothing.
 use borrow.Author.Needs.{needs}
-use mathlib.Core.Path.{_≡_, refl, sym, ap, _∙_}
-use Prim.Native.Nat.{ℕ, _+_, _-_, _≤_}
+use mathlib.Core.Path.{sym, ap, _∙_}
+use Prim.Native.Nat.{_+_, _-_, _≤_}
 use native.Mathlib.Omega.{arith}
-use lib.ListN.{length, drop, length-drop}
-use Rattle.cue_book.specs.declared.Due.the-variants.{Phrase, Ordinal, Title}
-use Rattle.cue_book.specs.Reading.{numberIn, fieldRefusal}
-use Rattle.cue_book.proofs.Fields.{from-is}
-use Rattle.cue_book.proofs.Cues.{fielded, BodyAt, body-at, refused-some, body-inside, ordinal-two, cue-first, cue-second, cue-refused, after-at, first-two, cue-read}
+use lib.ListN.{length}
+use Rattle.cue_fields.specs.declared.Due.the-variants.{Phrase, Ordinal, Title}
+use Rattle.cue_fields.specs.Field.{numberIn, fieldRefusal}
+use Rattle.cue_fields.proofs.Fields.{from-is}
+use Rattle.cue_fields.proofs.Fielded.{fielded, BodyAt, body-at, refused-some, body-inside, ordinal-two, after-at}
+use Rattle.cue_book.proofs.Cues.{cue-first, cue-second, cue-refused, first-two, cue-read}
 use Rattle.cue_book.proofs.read_cue.Statement.{statement}
 use Rattle.cue_book.proofs.read_cue.Tie as tie
 
@@ -97,12 +98,7 @@ part-number-at-end : tie.Need-part-number-at-end
 part-number-at-end c = search needs
 
 number-at-requires : tie.Need-number-at-requires
-number-at-requires c κs =
-    let k = c .before .before .before .before .before in
-    let f = k .before .before .before .before in
-    let book = f .before .before .before .before .before .args .book .now in
-    let body = k .before .second .given .0 .0 in
-    omega (arith, ordinal-left k, ap length (from-is book body), length-drop body book)
+number-at-requires c κs = search needs
 
 cast-ordinal : tie.Need-cast-ordinal
 cast-ordinal c = search needs

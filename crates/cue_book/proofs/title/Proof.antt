@@ -1,13 +1,13 @@
 -- `cue_book::title` meets its contract: the part that is placed lies in the book. Assumes nothing.
 use borrow.Author.Needs.{needs}
-use mathlib.Core.Path.{_≡_, ap, _∙_}
+use mathlib.Core.Path.{ap, _∙_}
 use mathlib.Core.List.{List}
 use Prim.Native.Nat.{ℕ, _+_, _≤_}
 use native.Mathlib.Omega.{arith}
 use lib.ListN.{length, take, length-drop}
 use Rattle.cue_book.specs.declared.Part.{Part}
-use Rattle.cue_book.proofs.Fields.{from-is}
-use Rattle.cue_book.proofs.Books.{Shows, title-shows}
+use Rattle.cue_fields.proofs.Fields.{from-is}
+use Rattle.cue_book.proofs.Books.{title-shows}
 use Rattle.cue_book.proofs.title.Statement.{statement}
 use Rattle.cue_book.proofs.title.Tie as tie
 

@@ -1,8 +1,6 @@
 -- `cue_book::title_part` meets its contract: it is the part that the walk has noted, and that part holds the title. Assumes nothing.
 use borrow.Author.Needs.{needs}
 use mathlib.Core.Path.{ap, _∙_}
-use mathlib.Core.List.{List}
-use Prim.Native.Nat.{ℕ}
 use lib.ListN.{take, drop}
 use Rattle.cue_book.specs.declared.Part.{Part}
 use Rattle.cue_book.proofs.Books.{title-shows}

@@ -1,15 +1,13 @@
 -- `cue_book::walk` meets its contract. The loop's invariant: the cues read so far, and what the rest reads as, are the whole book (`Along`), and the wanted cue's title is noted once it
 -- has been passed (`Noted`). Assumes nothing.
 use borrow.Author.Needs.{needs}
-use mathlib.Core.Path.{_≡_, refl, sym, ap, ap₂, _∙_}
+use mathlib.Core.Path.{_≡_, sym, ap, ap₂, _∙_}
 use mathlib.Core.Logic.{⊎-elim}
-use Prim.Native.Nat.{ℕ, _+_, _-_, _≤_, _<_}
+use Prim.Native.Nat.{ℕ, _-_, _<_}
 use native.Mathlib.Omega.{arith}
 use mathlib.Core.List.{List}
-use lib.ListN.{length, drop}
-use Rattle.cue_book.specs.Format.{Cue}
-use Rattle.cue_book.specs.Reading.{Reading, refused, cues, readBook, refusalOf, numberOf, cueRefusal, cueSize}
-use Rattle.cue_book.specs.Places.{front, titlePart}
+use lib.ListN.{length}
+use Rattle.cue_book.specs.Reading.{refused, cues, readBook, refusalOf, numberOf}
 use Rattle.cue_book.specs.Walking.{Walked}
 use Rattle.cue_book.proofs.Cues.{CueAt, cue-at, cue-refused-some}
 use Rattle.cue_book.proofs.Books.{Along, along-first, along-over, along-refused, along-next, along-end, Noted, noted-first, noted-other, noted-this, title-inside, part-refused, part-cues}

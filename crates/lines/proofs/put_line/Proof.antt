@@ -2,7 +2,6 @@
 use borrow.Author.Needs.{needs}
 use Rattle.lines.specs.Lines.{lineOf}
 use Rattle.pieces.proofs.Laid.{laid-one, laid-cons, laid-then}
-use borrow.Author.Needs.{needs}
 use Rattle.lines.proofs.put_line.Statement.{statement}
 use Rattle.lines.proofs.put_line.Tie as tie
 

@@ -2,7 +2,6 @@
 use borrow.Author.Needs.{needs}
 use Rattle.lines.specs.Lines.{refusedLine}
 use Rattle.pieces.proofs.Laid.{laid-one, laid-cons}
-use borrow.Author.Needs.{needs}
 use Rattle.lines.proofs.put_refused.Statement.{statement}
 use Rattle.lines.proofs.put_refused.Tie as tie
 

@@ -1,0 +1,67 @@
+-- The tests of a field, one by one: what each case of `fieldRefusal` gives, and what follows where a field is read. Assumes nothing.
+use mathlib.Core.Path.{_≡_, sym, ap, _∙_}
+use Prim.Native.Nat.{ℕ, _+_, _-_, _≤_, _<_}
+use native.Mathlib.Omega.{arith}
+use mathlib.Core.Bool.{true, false, cond}
+use mathlib.Core.List.{List}
+use lib.ListN.{length, getD, take, drop, length-drop}
+use lib.Seq.{take-all}
+use lib.Dec.{eqb, ltb}
+use borrow.Author.Tests.{eq-eqb, ne-eqb, lt-ltb, le-ltb}
+use Rattle.cue_fields.specs.declared.Due.{Due}
+use Rattle.cue_fields.specs.declared.FieldAnswer.the-variants.{Body, Refused}
+use Rattle.cue_fields.specs.Field.{tagOf, allowed, fieldLength, fieldSize, ordinalZero, bodyRefusal, fieldRefusal, fieldAt, FieldRead}
+
+-- ---- parts of a book
+
+-- the part from a place on, as a lent part is given, is what is left there
+abbrev pub from : List ℕ → ℕ → List ℕ
+from l k = take (length l - k) (drop k l)
+
+pub from-is : (l : List ℕ) (k : ℕ) → from l k ≡ drop k l
+from-is l k = take-all (length l - k) (drop k l) (omega (arith, length-drop k l))
+
+pub from-twice : (l : List ℕ) (k j : ℕ) → from (from l k) j ≡ drop j (drop k l)
+from-twice l k j = from-is (from l k) j ∙ ap (λ (x : List ℕ). drop j x) (from-is l k)
+
+-- ---- from the body onward
+
+pub body-short : (due : Due) (n : ℕ) (bytes : List ℕ) → length bytes < n → bodyRefusal due n bytes ≡ 7
+unfolding bodyRefusal
+body-short due n bytes h = rw (lt-ltb (length bytes) n h)
+
+pub body-whole : (due : Due) (n : ℕ) (bytes : List ℕ) → n ≤ length bytes → bodyRefusal due n bytes ≡ cond (ordinalZero due bytes) 9 0
+unfolding bodyRefusal
+body-whole due n bytes h = rw (le-ltb (length bytes) n h)
+
+-- ---- the refusal by its cases
+
+module _ (due : Due) (rest : List ℕ) where
+  pub field-short : length rest < 3 → fieldRefusal due rest ≡ 7
+  unfolding fieldRefusal
+  field-short h = rw (lt-ltb (length rest) 3 h)
+
+  pub field-tag : 3 ≤ length rest → (getD rest 0 0 ≡ tagOf due → ⊥) → fieldRefusal due rest ≡ 8
+  unfolding fieldRefusal
+  field-tag h t = rw (le-ltb (length rest) 3 h, ne-eqb (getD rest 0 0) (tagOf due) t)
+
+  pub field-length : 3 ≤ length rest → getD rest 0 0 ≡ tagOf due → allowed due (fieldLength rest) ≡ false → fieldRefusal due rest ≡ 9
+  unfolding fieldRefusal
+  field-length h t a = rw (le-ltb (length rest) 3 h, eq-eqb (getD rest 0 0) (tagOf due) t, a)
+
+  pub field-body : 3 ≤ length rest → getD rest 0 0 ≡ tagOf due → allowed due (fieldLength rest) ≡ true → fieldRefusal due rest ≡ bodyRefusal due (fieldLength rest) (drop 3 rest)
+  unfolding fieldRefusal
+  field-body h t a = rw (le-ltb (length rest) 3 h, eq-eqb (getD rest 0 0) (tagOf due) t, a)
+
+-- ---- the answer by its cases
+
+module _ (book : List ℕ) (place : ℕ) (due : Due) where
+  pub at-refused : {number : ℕ} → fieldRefusal due (drop place book) ≡ number → (number ≡ 0 → ⊥) → FieldRead book place due (Refused number)
+  unfolding fieldAt
+  at-refused {number} e some =
+      let off = ne-eqb (fieldRefusal due (drop place book)) 0 (λ z. some (sym e ∙ z)) in
+      record { answer = rw off (ap Refused (sym e)); number = sym e }
+
+  pub at-body : fieldRefusal due (drop place book) ≡ 0 → {start end : ℕ} → start ≡ place + 3 → end ≡ place + fieldSize (drop place book) → FieldRead book place due (Body start end)
+  unfolding fieldAt
+  at-body e s t = let on = eq-eqb (fieldRefusal due (drop place book)) 0 e in record { answer = rw (on, s, t); number = sym e }

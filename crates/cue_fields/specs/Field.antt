@@ -1,0 +1,93 @@
+-- A field of a cue book (document 01, "Cue book, folding, lines"): its bytes, and what reading it gives on every byte string, with the tests in the document's order. `rest` is what is
+-- left of the book at the field.
+use mathlib.Core.Path.{_≡_}
+use Prim.Native.Nat.{ℕ, _+_, _*_, _/_, _%_}
+use mathlib.Core.Bool.{Bool, false, cond, _&&_}
+use mathlib.Core.List.{List, [], _∷_, _++_}
+use lib.ListN.{length, getD, take, drop}
+use lib.Dec.{eqb, ltb, leb}
+use Rattle.cue_fields.specs.declared.Due.{Due}
+use Rattle.cue_fields.specs.declared.Due.the-variants.{Phrase, Ordinal, Title}
+use Rattle.cue_fields.specs.declared.FieldAnswer.{FieldAnswer}
+use Rattle.cue_fields.specs.declared.FieldAnswer.the-variants.{Body, Refused}
+
+-- ---- its bytes
+
+-- a number in two bytes, high byte first
+abbrev pub twoBytes : ℕ → List ℕ
+twoBytes n = n / 256 ∷ n % 256 ∷ []
+
+-- a field: a one-byte tag, a two-byte length and the body
+abbrev pub fieldBytes : ℕ → List ℕ → List ℕ
+fieldBytes tag body = tag ∷ (twoBytes (length body) ++ body)
+
+-- ---- reading it
+
+-- its tag
+abbrev pub tagOf : Due → ℕ
+tagOf Phrase = 1
+tagOf Ordinal = 2
+tagOf Title = 3
+
+-- the lengths that its body may have
+abbrev pub allowed : Due → ℕ → Bool
+allowed Phrase n = leb 1 n && leb n 1024
+allowed Ordinal n = eqb n 2
+allowed Title n = leb n 200
+
+-- the number whose two bytes stand at the front, high byte first; a byte that is missing counts as 0
+unfoldable pub numberIn : List ℕ → ℕ
+numberIn bytes = 256 * getD bytes 0 0 + getD bytes 1 0
+
+-- the length that a field's header gives, its body, the bytes that it takes, and what is left after it
+abbrev pub fieldLength : List ℕ → ℕ
+fieldLength rest = numberIn (drop 1 rest)
+
+abbrev pub fieldBody : List ℕ → List ℕ
+fieldBody rest = take (fieldLength rest) (drop 3 rest)
+
+abbrev pub fieldSize : List ℕ → ℕ
+fieldSize rest = 3 + fieldLength rest
+
+abbrev pub afterField : List ℕ → List ℕ
+afterField rest = drop (fieldSize rest) rest
+
+-- an ordinal of 0
+abbrev pub ordinalZero : Due → List ℕ → Bool
+ordinalZero Phrase body = false
+ordinalZero Ordinal body = eqb (numberIn body) 0
+ordinalZero Title body = false
+
+-- the last two tests, of the bytes from the body onward: body present (7), ordinal not 0 (9)
+unfoldable pub bodyRefusal : Due → ℕ → List ℕ → ℕ
+unfolding numberIn
+bodyRefusal due n bytes = cond (ltb (length bytes) n) 7 (cond (ordinalZero due bytes) 9 0)
+
+-- the refusal of a field, 0 for none: three header bytes present (7), tag (8), length (9), and the tests of the body
+unfoldable pub fieldRefusal : Due → List ℕ → ℕ
+unfolding numberIn bodyRefusal
+fieldRefusal due rest =
+    cond (ltb (length rest) 3) 7
+    (cond (eqb (getD rest 0 0) (tagOf due))
+    (cond (allowed due (fieldLength rest)) (bodyRefusal due (fieldLength rest) (drop 3 rest)) 9)
+    8)
+
+-- ---- the answer
+
+-- the refusal's number of an answer, 0 for a field
+abbrev pub fieldNumber : FieldAnswer → ℕ
+fieldNumber (Body start end) = 0
+fieldNumber (Refused number) = number
+
+-- the answer at a place: the body starts after the header's three bytes
+unfoldable pub fieldAt : List ℕ → ℕ → Due → FieldAnswer
+unfolding fieldRefusal numberIn
+fieldAt book place due =
+    cond (eqb (fieldRefusal due (drop place book)) 0)
+    (Body (place + 3) (place + fieldSize (drop place book)))
+    (Refused (fieldRefusal due (drop place book)))
+
+-- what is read there, and its number in document 01
+pub record FieldRead (book : List ℕ) (place : ℕ) (due : Due) (r : FieldAnswer) : Type 0 where
+  pub answer : r ≡ fieldAt book place due
+  pub number : fieldNumber r ≡ fieldRefusal due (drop place book)

@@ -1,0 +1,2 @@
+-- A field: its bytes, and what reading it gives.
+pub mod Field

@@ -1,0 +1,28 @@
+-- Byte strings, and books put together from written cues: what demand 2's theorems on the cue book speak of.
+use mathlib.Core.Path.{_≡_}
+use Prim.Native.Nat.{ℕ, _<_}
+use mathlib.Core.List.{List, [], _∷_}
+use lib.ListN.{getD, take}
+use Rattle.cue_book.specs.declared.Answer.{Answer}
+use Rattle.cue_book.specs.Format.{Cue}
+use Rattle.cue_writer.specs.Writing.{Written}
+
+-- every letter is a byte
+abbrev pub Bytes : List ℕ → Type 0
+Bytes l = (i : ℕ) → getD l i 0 < 256
+
+-- these are the bytes that writing the cue put at the start of some buffer
+pub record WroteCue (c : Cue) (bytes : List ℕ) : Type 0 where
+  pub buffer : List ℕ
+  pub buffer′ : List ℕ
+  pub answer : Answer
+  pub wrote : Written c buffer answer buffer′
+  pub accepted : answer .refusal ≡ 0
+  pub is : bytes ≡ take (answer .number) buffer′
+
+-- a book put together from written cues, one after another
+unfoldable pub Assembled : List Cue → List (List ℕ) → Type 0
+Assembled [] [] = Unit {0}
+Assembled [] (bytes ∷ pieces) = ⊥
+Assembled (c ∷ cs) [] = ⊥
+Assembled (c ∷ cs) (bytes ∷ pieces) = WroteCue c bytes × Assembled cs pieces
