@@ -1,10 +1,13 @@
-//! The finding of document 01, written again from its words alone: simple, slow, and independent of the library that it is compared with.
+//! The finding and the cue book of document 01, written again from its words alone: simple, slow, and independent of the library that it is compared
+//! with.
 //!
 //! [`find`] is the find call; [`finder_output`] is what the finder program prints. Each engine has a file of its own, with its table's rule and its
-//! steps. Tables are made by brute force from their rules.
+//! steps. Tables are made by brute force from their rules. [`read_book`], [`title`] and [`write_cue`] are the calls of the cue book; [`cues`] and
+//! [`read_field`] are what they are made of.
 
 #![forbid(unsafe_code)]
 
+mod cue_book;
 mod double_window;
 mod find;
 mod finder;
@@ -18,6 +21,7 @@ mod sunday;
 #[cfg(test)]
 mod worked_examples;
 
+pub use cue_book::{cues, read_book, read_field, title, write_cue, Cue, Field};
 pub use find::find;
 pub use finder::finder_output;
 pub use fold::fold;

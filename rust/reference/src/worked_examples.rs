@@ -1,6 +1,6 @@
-//! The worked examples of document 01, "The finder program" and "Refrains to try".
+//! The worked examples of document 01, "The finder program" and "Refrains to try", and the tests that a book's fields meet.
 
-use crate::{double_window, find, finder_output, fjs, horspool, kmp, sunday};
+use crate::{cues, double_window, find, finder_output, fjs, fold, horspool, kmp, read_book, read_field, sunday, title, write_cue, Cue, Field};
 
 /// Total, comparisons and places by a method, with memory enough.
 fn found(method: u32, phrase: &[u8], text: &[u8]) -> (u32, u32, Vec<u32>) {
@@ -87,4 +87,70 @@ fn figure_of_document_001() {
     let run = fjs::run(phrase, text, &sunday::table(phrase), &kmp::table(phrase));
     assert!(run.places.is_empty());
     assert_eq!(run.comparisons, 1 + 5 + 2 + 1 + 4);
+}
+
+/// The starred book: la, 2, No.
+const BOOK: &[u8] = b"\x01\x00\x02la\x02\x00\x02\x00\x02\x03\x00\x02No";
+
+#[test]
+fn starred_book() {
+    assert_eq!(BOOK, [0x01, 0x00, 0x02, 0x6c, 0x61, 0x02, 0x00, 0x02, 0x00, 0x02, 0x03, 0x00, 0x02, 0x4e, 0x6f]);
+    assert_eq!(cues(BOOK), Ok(vec![Cue { phrase: b"la".to_vec(), ordinal: 2, title: 13..15 }]));
+    assert_eq!(read_book(BOOK), (0, 1));
+    assert_eq!(title(BOOK, 0), (13, 2));
+    assert_eq!(title(BOOK, 1), (0, 0));
+    let mut buffer = [7; 17];
+    assert_eq!(write_cue(&mut buffer, b"la", 2, b"No"), (0, 15));
+    assert_eq!(buffer, *[BOOK, &[7, 7]].concat());
+}
+
+#[test]
+fn starred_folds() {
+    assert_eq!([0xc9, 0xd7, 0xdf, 0xff].map(fold), [0xe9, 0xd7, 0xdf, 0xff]);
+}
+
+/// The tests of a field in their order, each met by a field that would also meet the later ones.
+#[test]
+fn fields() {
+    assert_eq!(read_field(BOOK, 0, Field::Phrase), Ok((3..5, 5)));
+    assert_eq!(read_field(BOOK, 5, Field::Ordinal), Ok((8..10, 10)));
+    assert_eq!(read_field(BOOK, 10, Field::Title), Ok((13..15, 15)));
+    for place in [13, 14, 15, 16, usize::MAX - 3, usize::MAX] {
+        assert_eq!(read_field(BOOK, place, Field::Title), Err(7), "place {place}");
+    }
+    let met = |field: &[u8], due| read_field(field, 0, due).err();
+    assert_eq!(met(&[0x09, 0xff], Field::Ordinal), Some(7));
+    assert_eq!(met(&[0x01, 0xff, 0xff], Field::Ordinal), Some(8));
+    assert_eq!(met(&[0x02, 0x00, 0x03], Field::Ordinal), Some(9));
+    assert_eq!(met(&[0x02, 0x00, 0x02, 0x00], Field::Ordinal), Some(7));
+    assert_eq!(met(&[0x02, 0x00, 0x02, 0x00, 0x00], Field::Ordinal), Some(9));
+    assert_eq!(met(&[0x02, 0x00, 0x02, 0x01, 0x00], Field::Ordinal), None);
+}
+
+#[test]
+fn numbers_of_cues() {
+    let mut book = BOOK.repeat(999);
+    assert_eq!(read_book(&[]), (0, 0));
+    assert_eq!(read_book(&book), (0, 999));
+    assert_eq!(title(&book, 998), (15 * 998 + 13, 2));
+    book.push(0x01);
+    assert_eq!(read_book(&book), (10, 999));
+    assert_eq!(title(&book, 998), (0, 0));
+    book[15 * 998] = 0x02;
+    assert_eq!(read_book(&book), (8, 998));
+}
+
+#[test]
+fn cues_to_be_written() {
+    let mut buffer = [7; 1235];
+    let letters = [b'a'; 1025];
+    assert_eq!(write_cue(&mut buffer, b"", 0, &letters), (2, 0));
+    assert_eq!(write_cue(&mut buffer, &letters, 0, &letters), (3, 0));
+    for (ordinal, title) in [(0, 0), (65_536, 0), (u32::MAX, 0), (1, 201)] {
+        assert_eq!(write_cue(&mut buffer[..0], b"a", ordinal, &letters[..title]), (9, 0));
+    }
+    assert_eq!(write_cue(&mut buffer[..1234], &letters[..1024], 65_535, &letters[..200]), (13, 0));
+    assert_eq!(buffer, [7; 1235]);
+    assert_eq!(write_cue(&mut buffer, &letters[..1024], 65_535, &letters[..200]), (0, 1235));
+    assert_eq!(cues(&buffer), Ok(vec![Cue { phrase: letters[..1024].to_vec(), ordinal: 65_535, title: 1035..1235 }]));
 }
