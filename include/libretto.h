@@ -1,4 +1,4 @@
-/* libretto.h: exact matching over bytes, with every result and every lent entry proved.
+/* libretto.h: exact matching over bytes, and cue books, with every result and every lent entry proved.
  *
  * Every function is reentrant, keeps nothing between calls, allocates nothing, and may be called on any input: what the tables below do not
  * accept is refused, with nothing written. Memory is lent by the caller and is left exactly as stated. Link with liblibretto.a.
@@ -38,14 +38,25 @@ enum libretto_method {
 /* As many as any call needs. */
 #define LIBRETTO_SCRATCH_MAX ((size_t)65792)
 
-/* Why a call was refused. They are tested in this order, and the first that applies is returned. */
+/* The limits of a cue book: the most cues, the longest title in bytes, the largest ordinal, and the bytes of the longest cue. */
+#define LIBRETTO_CUES_MAX 999
+#define LIBRETTO_TITLE_MAX 200
+#define LIBRETTO_ORDINAL_MAX 65535
+#define LIBRETTO_CUE_MAX 1235
+
+/* Why a call was refused. They are tested in this order, and the first that applies is returned; only 7 to 9 come as the book is read. */
 enum libretto_refusal {
     LIBRETTO_OK = 0,             /* not refused */
     LIBRETTO_UNKNOWN_METHOD = 1, /* the method is above 5 */
     LIBRETTO_NO_PHRASE = 2,      /* the phrase has 0 bytes */
     LIBRETTO_LONG_PHRASE = 3,    /* the phrase has more than 1,024 bytes */
     LIBRETTO_LONG_TEXT = 4,      /* the text has more than 32,768 bytes */
-    LIBRETTO_SHORT_SCRATCH = 5   /* the scratch has fewer entries than the method needs */
+    LIBRETTO_SHORT_SCRATCH = 5,  /* the scratch has fewer entries than the method needs */
+    LIBRETTO_CUT_FIELD = 7,      /* the book ends inside a field */
+    LIBRETTO_WRONG_TAG = 8,      /* a field's tag is not the one due */
+    LIBRETTO_BAD_FIELD = 9,      /* a field's length is not allowed, or an ordinal is 0 or, to be written, above 65,535 */
+    LIBRETTO_LONG_BOOK = 10,     /* bytes remain after 999 cues */
+    LIBRETTO_LONG_CUE = 13       /* a cue to be written is longer than its buffer */
 };
 
 /* What a find gives back: a refusal or 0, the total of occurrences, and the letter comparisons made; a refused call gives 0 for both. */
@@ -64,6 +75,37 @@ libretto_finding libretto_find(uint32_t method, const uint8_t *phrase, size_t ph
 
 /* What a letter of ISO 8859-1 folds to: 32 is added to 0x41-0x5A and to 0xC0-0xDE except 0xD7, and every other byte stays. */
 uint8_t libretto_fold(uint8_t letter);
+
+/* A cue book is 0 to 999 cues and nothing after. A cue is three fields: the phrase (tag 1, 1 to 1,024 bytes), the ordinal (tag 2, 2 bytes, high byte
+ * first, 1 to 65,535) and the title (tag 3, 0 to 200 bytes). A field is the tag in one byte, the length in two, high byte first, and the body; so a
+ * cue has 11 bytes besides phrase and title. For each field these are tested in turn: three header bytes present (7), the tag (8), the length (9),
+ * the body present (7), the ordinal not 0 (9). */
+
+/* What a call on a cue book gives back: a refusal or 0, and a number that each function names. */
+typedef struct {
+    uint32_t refusal, number;
+} libretto_answer;
+
+/* Reads a whole book: 0 and its number of cues. A refused book gives 7, 8 or 9 and the index, from 0, of the cue where it was refused, or 10 and
+ * 999. Nothing is written. */
+libretto_answer libretto_read_book(const uint8_t *book, size_t book_len);
+
+/* A part of a book: the bytes from start on, len of them. */
+typedef struct {
+    size_t start, len;
+} libretto_part;
+
+/* The part of the book where the title of a cue stands, by the cue's index from 0. It is start 0 and len 0, the empty part at the book's front, where
+ * the whole book is refused or has no such cue. Nothing is written. */
+libretto_part libretto_title(const uint8_t *book, size_t book_len, uint32_t cue);
+
+/* Writes a cue at the buffer's start: 0 and the cue's bytes, 11 + phrase_len + title_len, and the buffer's bytes past them keep their values.
+ *
+ * It is refused for a phrase of 0 bytes (2) or more than 1,024 (3), an ordinal outside 1 to 65,535 or a title of more than 200 bytes (9), and a
+ * buffer shorter than the cue (13). A refused call gives 0 as the number and leaves the buffer as it was. The buffer must not overlap phrase or
+ * title. */
+libretto_answer libretto_write_cue(uint8_t *buffer, size_t buffer_len, const uint8_t *phrase, size_t phrase_len, uint32_t ordinal,
+                                   const uint8_t *title, size_t title_len);
 
 #ifdef __cplusplus
 }
