@@ -1,0 +1,83 @@
+//! The refusals, which all functions share.
+
+use std::error::Error;
+use std::fmt;
+
+/// Why a call was refused. The library tests in the order of the numbers, and the first that applies is returned.
+#[derive(Clone, Copy, Debug, PartialEq, Eq, Hash)]
+#[repr(u32)]
+pub enum Refusal {
+    /// The method number is above 5. No call with a [`Method`](crate::Method) meets this.
+    UnknownMethod = 1,
+    /// The phrase has 0 bytes.
+    NoPhrase = 2,
+    /// The phrase has more than 1,024 bytes.
+    LongPhrase = 3,
+    /// The text has more than 32,768 bytes.
+    LongText = 4,
+    /// The scratch has fewer entries than the method needs.
+    ShortScratch = 5,
+}
+
+impl Refusal {
+    /// The refusal's number, from 1 to 5.
+    pub const fn number(self) -> u32 {
+        self as u32
+    }
+
+    /// The refusal of this number, if there is one.
+    ///
+    /// ```
+    /// use libretto::Refusal;
+    /// assert_eq!(Refusal::from_number(3), Some(Refusal::LongPhrase));
+    /// assert_eq!(Refusal::from_number(0), None);
+    /// ```
+    pub const fn from_number(number: u32) -> Option<Refusal> {
+        match number {
+            1 => Some(Refusal::UnknownMethod),
+            2 => Some(Refusal::NoPhrase),
+            3 => Some(Refusal::LongPhrase),
+            4 => Some(Refusal::LongText),
+            5 => Some(Refusal::ShortScratch),
+            _ => None,
+        }
+    }
+
+    /// The number that a call gave back, as a result: 0 is no refusal.
+    pub(crate) fn check(number: u32) -> Result<(), Refusal> {
+        match number {
+            0 => Ok(()),
+            _ => Err(Refusal::from_number(number).expect("the library refuses with the numbers of the table only")),
+        }
+    }
+}
+
+impl fmt::Display for Refusal {
+    fn fmt(&self, f: &mut fmt::Formatter<'_>) -> fmt::Result {
+        f.pad(match self {
+            Refusal::UnknownMethod => "the method number is above 5",
+            Refusal::NoPhrase => "the phrase has 0 bytes",
+            Refusal::LongPhrase => "the phrase has more than 1,024 bytes",
+            Refusal::LongText => "the text has more than 32,768 bytes",
+            Refusal::ShortScratch => "the scratch has fewer entries than the method needs",
+        })
+    }
+}
+
+impl Error for Refusal {}
+
+#[cfg(test)]
+mod tests {
+    use super::*;
+
+    #[test]
+    fn refusals_have_their_numbers_and_sentences() {
+        for number in 1..=5 {
+            let refusal = Refusal::from_number(number).unwrap();
+            assert_eq!(refusal.number(), number);
+            assert!(!refusal.to_string().is_empty());
+        }
+        assert_eq!(Refusal::from_number(0), None);
+        assert_eq!(Refusal::from_number(6), None);
+    }
+}
