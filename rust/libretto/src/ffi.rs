@@ -1,6 +1,6 @@
 //! The C interface of the library, and the only unsafe code of this crate: one declaration and one call for each function.
 
-use crate::RawFinding;
+use crate::{RawAnswer, RawFinding, RawPart};
 
 extern "C" {
     fn libretto_find(
@@ -16,6 +16,20 @@ extern "C" {
     ) -> RawFinding;
 
     fn libretto_fold(letter: u8) -> u8;
+
+    fn libretto_read_book(book: *const u8, book_len: usize) -> RawAnswer;
+
+    fn libretto_title(book: *const u8, book_len: usize, cue: u32) -> RawPart;
+
+    fn libretto_write_cue(
+        buffer: *mut u8,
+        buffer_len: usize,
+        phrase: *const u8,
+        phrase_len: usize,
+        ordinal: u32,
+        title: *const u8,
+        title_len: usize,
+    ) -> RawAnswer;
 }
 
 /// Calls `libretto_find` on slices.
@@ -43,4 +57,28 @@ pub(crate) fn find(method: u32, phrase: &[u8], text: &[u8], scratch: &mut [u16],
 pub(crate) fn fold(letter: u8) -> u8 {
     // SAFETY: the function takes and gives a number, and accepts every one.
     unsafe { libretto_fold(letter) }
+}
+
+/// Calls `libretto_read_book` on a slice.
+pub(crate) fn read_book(book: &[u8]) -> RawAnswer {
+    // SAFETY: the pointer comes from a slice and stands beside that slice's own length, so it is not null (also where the slice is empty) and valid
+    // for reading as many bytes; the borrow outlives the call, which keeps no pointer. The library accepts any bytes. `RawAnswer` has the layout of
+    // the C structure (`repr(C)`, two `u32`).
+    unsafe { libretto_read_book(book.as_ptr(), book.len()) }
+}
+
+/// Calls `libretto_title` on a slice.
+pub(crate) fn title(book: &[u8], cue: u32) -> RawPart {
+    // SAFETY: as for `read_book`; the library accepts any index as well. `RawPart` has the layout of the C structure (`repr(C)`, two `usize`, which
+    // is `size_t`).
+    unsafe { libretto_title(book.as_ptr(), book.len(), cue) }
+}
+
+/// Calls `libretto_write_cue` on slices.
+pub(crate) fn write_cue(buffer: &mut [u8], phrase: &[u8], ordinal: u32, title: &[u8]) -> RawAnswer {
+    // SAFETY: each pointer comes from a slice and stands beside that slice's own length, so it is not null (also where the slice is empty) and valid
+    // for as many bytes: for reading with phrase and title, for reading and writing with the buffer. The exclusive borrow keeps the buffer apart
+    // from both, and all three borrows outlive the call, which keeps no pointer. The library accepts any ordinal and any lengths. `RawAnswer` has
+    // the layout of the C structure (`repr(C)`, two `u32`).
+    unsafe { libretto_write_cue(buffer.as_mut_ptr(), buffer.len(), phrase.as_ptr(), phrase.len(), ordinal, title.as_ptr(), title.len()) }
 }

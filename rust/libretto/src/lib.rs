@@ -1,7 +1,10 @@
-//! Exact matching over bytes by six engines: a safe Rust interface to the library `libretto`.
+//! Exact matching over bytes by six engines, and cue books: a safe Rust interface to the library `libretto`.
 //!
 //! All engines give the same list of places; each gives the count of its own letter comparisons. The library allocates nothing: the caller lends a
 //! scratch of 16-bit numbers for the tables and a list of 32-bit numbers for the places. [`find_all`] lends both itself.
+//!
+//! A cue book is 0 to 999 cues, each with a phrase, an ordinal and a title: [`write_cue`] writes one, [`read_book`] tests a whole book, and [`title`]
+//! shows a title where it stands.
 //!
 //! ```
 //! use libretto::{find, find_all, Finding, Method, Refusal};
@@ -24,15 +27,18 @@
 #![deny(unsafe_code)]
 #![deny(missing_docs)]
 
+mod cue_book;
 #[allow(unsafe_code)]
 mod ffi;
 mod find;
 mod refusal;
 
+pub use cue_book::{read_book, read_book_raw, title, title_raw, write_cue, write_cue_raw};
+pub use cue_book::{BookError, RawAnswer, RawPart, CUES_MAX, CUE_MAX, ORDINAL_MAX, TITLE_MAX};
 pub use find::{find, find_all, find_raw, Finding, Method, RawFinding};
 pub use refusal::Refusal;
 
-/// The longest phrase that a find takes, in bytes.
+/// The longest phrase of a find and of a cue, in bytes.
 pub const PHRASE_MAX: usize = 1024;
 
 /// The longest text that a find takes, in bytes.

@@ -3,7 +3,8 @@
 use std::error::Error;
 use std::fmt;
 
-/// Why a call was refused. The library tests in the order of the numbers, and the first that applies is returned.
+/// Why a call was refused. The library tests in the order of the numbers, and the first that applies is returned; only 7 to 9 come as a book is
+/// read.
 #[derive(Clone, Copy, Debug, PartialEq, Eq, Hash)]
 #[repr(u32)]
 pub enum Refusal {
@@ -17,10 +18,20 @@ pub enum Refusal {
     LongText = 4,
     /// The scratch has fewer entries than the method needs.
     ShortScratch = 5,
+    /// The book ends inside a field.
+    CutField = 7,
+    /// A field's tag is not the one due.
+    WrongTag = 8,
+    /// A field's length is not allowed, or an ordinal is 0 or, to be written, above 65,535.
+    BadField = 9,
+    /// Bytes remain after 999 cues.
+    LongBook = 10,
+    /// A cue to be written is longer than its buffer.
+    LongCue = 13,
 }
 
 impl Refusal {
-    /// The refusal's number, from 1 to 5.
+    /// The refusal's number, from 1 to 13.
     pub const fn number(self) -> u32 {
         self as u32
     }
@@ -39,6 +50,11 @@ impl Refusal {
             3 => Some(Refusal::LongPhrase),
             4 => Some(Refusal::LongText),
             5 => Some(Refusal::ShortScratch),
+            7 => Some(Refusal::CutField),
+            8 => Some(Refusal::WrongTag),
+            9 => Some(Refusal::BadField),
+            10 => Some(Refusal::LongBook),
+            13 => Some(Refusal::LongCue),
             _ => None,
         }
     }
@@ -60,6 +76,11 @@ impl fmt::Display for Refusal {
             Refusal::LongPhrase => "the phrase has more than 1,024 bytes",
             Refusal::LongText => "the text has more than 32,768 bytes",
             Refusal::ShortScratch => "the scratch has fewer entries than the method needs",
+            Refusal::CutField => "the book ends inside a field",
+            Refusal::WrongTag => "a field's tag is not the one due",
+            Refusal::BadField => "a field's length is not allowed, or the ordinal is not from 1 to 65,535",
+            Refusal::LongBook => "bytes remain after 999 cues",
+            Refusal::LongCue => "the cue to be written is longer than its buffer",
         })
     }
 }
@@ -72,12 +93,13 @@ mod tests {
 
     #[test]
     fn refusals_have_their_numbers_and_sentences() {
-        for number in 1..=5 {
+        for number in [1, 2, 3, 4, 5, 7, 8, 9, 10, 13] {
             let refusal = Refusal::from_number(number).unwrap();
             assert_eq!(refusal.number(), number);
             assert!(!refusal.to_string().is_empty());
         }
-        assert_eq!(Refusal::from_number(0), None);
-        assert_eq!(Refusal::from_number(6), None);
+        for number in [0, 6, 11, 12, 14, u32::MAX] {
+            assert_eq!(Refusal::from_number(number), None);
+        }
     }
 }
