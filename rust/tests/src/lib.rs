@@ -5,10 +5,13 @@
 use std::cell::Cell;
 use std::sync::atomic::{AtomicU64, Ordering};
 
+pub mod books;
+mod cue_book;
 mod find;
 mod lent;
 pub mod words;
 
+pub use cue_book::{compare_book, compare_write};
 pub use find::{compare, needed};
 pub use words::Random;
 

@@ -1,0 +1,76 @@
+//! Cue books for the tests, well formed and not.
+
+use crate::Random;
+
+/// The most bytes that a phrase and a title have, and the most cues that a book has.
+pub const PHRASE: usize = 1024;
+pub const TITLE: usize = 200;
+pub const CUES: usize = 999;
+
+/// A whole cue, for a read past a book's end to go on with.
+pub const MORE: &[u8] = b"\x01\x00\x01a\x02\x00\x02\x00\x01\x03\x00\x00";
+
+/// A cue in its parts.
+#[derive(Clone, Debug, PartialEq, Eq)]
+pub struct Cue {
+    pub phrase: Vec<u8>,
+    pub ordinal: u16,
+    pub title: Vec<u8>,
+}
+
+impl Cue {
+    pub fn new(phrase: &[u8], ordinal: u16, title: &[u8]) -> Cue {
+        Cue { phrase: phrase.to_vec(), ordinal, title: title.to_vec() }
+    }
+
+    /// The cue as it stands in a book.
+    pub fn bytes(&self) -> Vec<u8> {
+        self.fields().concat()
+    }
+
+    /// The cue's fields as they stand in a book: phrase, ordinal, title.
+    pub fn fields(&self) -> [Vec<u8>; 3] {
+        let whole = |tag, body: &[u8]| field(tag, body.len(), body);
+        [whole(1, &self.phrase), whole(2, &self.ordinal.to_be_bytes()), whole(3, &self.title)]
+    }
+
+    /// A random cue. Its bytes are of four kinds at most, in half of the cues those that headers are made of.
+    pub fn random(random: &mut Random) -> Cue {
+        let kinds = if random.below(2) == 0 { vec![0, 1, 2, 3] } else { random.word(256, 4) };
+        let mut body = |most: usize, usual: usize| {
+            let length = if random.below(20) == 0 { random.between(0, most) } else { random.between(0, usual) };
+            (0..length).map(|_| kinds[random.below(4)]).collect::<Vec<u8>>()
+        };
+        let phrase = [&[kinds[0]], &body(PHRASE - 1, 6)[..]].concat();
+        let title = body(TITLE, 4);
+        let largest = [3, 300, 65_535][random.below(3)];
+        Cue { phrase, ordinal: random.between(1, largest) as u16, title }
+    }
+}
+
+/// A field with any tag, any length in its header, and any body.
+pub fn field(tag: u8, length: usize, body: &[u8]) -> Vec<u8> {
+    let length = u16::try_from(length).expect("a header holds two bytes of length");
+    [&[tag], &length.to_be_bytes()[..], body].concat()
+}
+
+/// The book of these cues.
+pub fn book(cues: &[Cue]) -> Vec<u8> {
+    cues.iter().flat_map(Cue::bytes).collect()
+}
+
+/// One random change: a byte replaced, put in or taken out, or a stretch of the book copied to another place.
+pub fn change(book: &mut Vec<u8>, random: &mut Random) {
+    let place = random.between(0, book.len());
+    let byte = if random.below(2) == 0 { random.below(5) as u8 } else { random.below(256) as u8 };
+    match random.below(4) {
+        0 if place < book.len() => book[place] = byte,
+        1 if place < book.len() => drop(book.remove(place)),
+        2 => {
+            let stretch = book[place..book.len().min(place + random.between(1, 20))].to_vec();
+            let to = random.between(0, book.len());
+            book.splice(to..to, stretch);
+        }
+        _ => book.insert(place, byte),
+    }
+}

@@ -1,0 +1,66 @@
+//! Cue books, by the library and by the reference.
+
+use crate::lent::{dirt, Lent, Shown};
+use crate::Faults;
+use libretto::{read_book_raw, title_raw, write_cue_raw, RawAnswer};
+
+/// Reads the book by the library and by the reference, and compares the answers and the titles of all its cues, of the cues next to them and of cues
+/// far off. What stands behind the book in memory would be read as more of it. Any difference ends the test with the whole case.
+pub fn compare_book(book: &[u8], behind: &[u8]) -> RawAnswer {
+    let mut shown = Shown::default();
+    shown.show(book, behind);
+    let raw = read_book_raw(shown.bytes());
+    let library = (raw.refusal, raw.number);
+    let reference = reference::read_book(book);
+
+    let mut faults = Faults::default();
+    faults.when(library != reference, "refusal or number differ");
+    // Far off are also the indexes that are small in their lowest 8 or 16 bits.
+    for cue in (0..=reference.1 + 1).chain([255, 256, 998, 999, 1000, 65_535, 65_536, 1 << 31, u32::MAX]) {
+        let part = title_raw(shown.bytes(), cue);
+        let (library, reference) = ((part.start, part.len), reference::title(book, cue));
+        faults.extend((library != reference).then(|| format!("(start, len) of title {cue}: library {library:?}, reference {reference:?}")));
+    }
+    faults.when(!shown.intact(book, behind), "the book was written");
+    faults.judge(|| {
+        format!(
+            "book of {} bytes: \"{}\"\nbehind it: \"{}\"\n(refusal, number): library {library:?}, reference {reference:?}",
+            book.len(),
+            book.escape_ascii(),
+            behind.escape_ascii()
+        )
+    });
+    raw
+}
+
+/// Writes a cue by the library and by the reference, into buffers that are dirty before the call, by the seed, and compares the answers and the whole
+/// buffers with guards on both sides. Any difference ends the test with the whole case.
+pub fn compare_write(buffer_len: usize, phrase: &[u8], ordinal: u32, title: &[u8], seed: u64) -> RawAnswer {
+    let dirty = dirt(buffer_len, seed);
+    let (mut shown_phrase, mut shown_title, mut buffer) = (Shown::default(), Shown::default(), Lent::default());
+    shown_phrase.show(phrase, title);
+    shown_title.show(title, phrase);
+    buffer.soil(dirty);
+    let (library_buffer, reference_buffer) = buffer.lend();
+    let raw = write_cue_raw(library_buffer, shown_phrase.bytes(), ordinal, shown_title.bytes());
+    let library = (raw.refusal, raw.number);
+    let reference = reference::write_cue(reference_buffer, phrase, ordinal, title);
+
+    let mut faults = Faults::default();
+    faults.when(library != reference, "refusal or number differ");
+    faults.extend(buffer.difference("buffer"));
+    faults.when(!shown_phrase.intact(phrase, title) || !shown_title.intact(title, phrase), "phrase or title was written");
+    // Told without the reference: a refused call leaves all as before.
+    faults.when(raw.refusal != 0 && (buffer.left() != dirty || raw.number != 0), "a refused call wrote something or gave a number");
+    faults.judge(|| {
+        format!(
+            "buffer_len {buffer_len}, ordinal {ordinal}, seed {seed}\nphrase of {} bytes: \"{}\"\ntitle of {} bytes: \"{}\"\n\
+             (refusal, number): library {library:?}, reference {reference:?}",
+            phrase.len(),
+            phrase.escape_ascii(),
+            title.len(),
+            title.escape_ascii()
+        )
+    });
+    raw
+}
