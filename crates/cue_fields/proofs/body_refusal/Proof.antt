@@ -42,13 +42,13 @@ returns-3 : tie.Need-returns-3
 returns-3 c =
     let o = c .before .before in
     let a = o .before .before .before .before .args in
-    sym (body-whole (a .due) (a .length) (a .bytes .now) (o .before .before .if1 .left) ∙ rw (o .enum-told .given .1, eq-eqb (numberIn (a .bytes .now)) 0 (sym (c .before .number-at .ensures .0) ∙ c .if2 .taken)))
+    sym (body-whole (a .due) (a .length) (a .bytes .now) (o .before .before .if1 .left) ∙ rw (o .enum-told .given .1, eq-eqb (numberIn (a .bytes .now)) 0 (omega (arith, c .before .number-at .ensures .0, c .if2 .taken))))
 
 returns-4 : tie.Need-returns-4
 returns-4 c =
     let o = c .before .before in
     let a = o .before .before .before .before .args in
-    sym (body-whole (a .due) (a .length) (a .bytes .now) (o .before .before .if1 .left) ∙ rw (o .enum-told .given .1, ne-eqb (numberIn (a .bytes .now)) 0 (λ z. c .if2 .left (c .before .number-at .ensures .0 ∙ z))))
+    sym (body-whole (a .due) (a .length) (a .bytes .now) (o .before .before .if1 .left) ∙ rw (o .enum-told .given .1, ne-eqb (numberIn (a .bytes .now)) 0 (λ z. absurd (omega (arith, c .before .number-at .ensures .0, c .if2 .left)))))
 
 pub body-refusal-spec : {M : Type 1} → statement M
 body-refusal-spec = tie.close (tie.spec returns enum-told returns-2 number-at-requires returns-3 returns-4)

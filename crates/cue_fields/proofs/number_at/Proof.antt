@@ -23,29 +23,29 @@ shared-slice-read-result : tie.Need-shared-slice-read-result
 shared-slice-read-result c = search needs
 
 cast-result : tie.Need-cast-result
-cast-result c = omega (arith, c .shared-slice-known .given 0)
+cast-result c = omega (arith, c .shared-slice-known .given 0, c .shared-slice-known .given 1)
 
 mul-result : tie.Need-mul-result
-mul-result c = omega (arith, c .shared-slice-known .given 0)
+mul-result c = omega (arith, c .shared-slice-known .given 0, c .shared-slice-known .given 1)
 
 returns-2 : tie.Need-returns-2
 unfolding numberIn
-returns-2 c = let l = c .before .before .before .args .bytes .now in (omega (arith, past l 1 (omega arith)), omega (arith, c .shared-slice-known .given 0))
+returns-2 c = let l = c .before .before .before .args .bytes .now in (omega (arith, past l 1 (omega arith)), omega (arith, c .shared-slice-known .given 0, c .shared-slice-known .given 1))
 
 shared-slice-read-result-2 : tie.Need-shared-slice-read-result-2
 shared-slice-read-result-2 c = search needs
 
 cast-result-2 : tie.Need-cast-result-2
-cast-result-2 c = omega (arith, c .shared-slice-known2 .given 0)
+cast-result-2 c = omega (arith, c .shared-slice-known2 .given 0, c .shared-slice-known2 .given 1)
 
 mul-result-2 : tie.Need-mul-result-2
-mul-result-2 c = omega (arith, c .shared-slice-known2 .given 0)
+mul-result-2 c = omega (arith, c .shared-slice-known2 .given 0, c .shared-slice-known2 .given 1)
 
 shared-slice-read-result-3 : tie.Need-shared-slice-read-result-3
 shared-slice-read-result-3 c = search needs
 
 cast-result-3 : tie.Need-cast-result-3
-cast-result-3 c = omega (arith, c .shared-slice-known3 .given 1)
+cast-result-3 c = omega (arith, c .shared-slice-known3 .given 0, c .shared-slice-known3 .given 1)
 
 add-result : tie.Need-add-result
 add-result c = omega (arith, c .shared-slice-known3 .given 0, c .shared-slice-known3 .given 1)

@@ -122,7 +122,7 @@ add-end : tie.Need-add-end
 add-end c = search needs
 
 returns-6 : tie.Need-returns-6
-returns-6 c = at-body _ _ _ (bodied (c .before) ∙ c .if5 .left) refl (omega (arith, sized (c .before .before .before)))
+returns-6 c = at-body _ _ _ (bodied (c .before) ∙ c .if5 .left) (omega arith) (omega (arith, sized (c .before .before .before)))
 
 pub read-field-spec : {M : Type 1} → statement M
 read-field-spec =
