@@ -13,7 +13,7 @@ use Rattle.matching.proofs.Tests.{by-test}
 use Rattle.cue_fields.specs.Field.{fieldLength, fieldSize, fieldBody}
 use Rattle.cue_book.specs.declared.Part.{Part}
 use Rattle.cue_book.specs.Format.{Cue}
-use Rattle.cue_book.specs.Reading.{afterPhrase, afterOrdinal, afterCue, cueRefusal, cueSize, cueOf, Reading, refused, cues, followed, readUpTo, readBook, refusalOf, cuesIn, titleAt}
+use Rattle.cue_book.specs.Reading.{afterPhrase, afterOrdinal, afterCue, cueRefusal, cueSize, cueOf, Reading, refused, cues, followed, readUpTo, readBook, refusalOf, numberOf, cuesIn, titleAt}
 use Rattle.cue_book.specs.Places.{titleStart, cuePlace, titleIn, front, titlePart}
 use Rattle.cue_book.proofs.Cues.{cued, CueAt}
 
@@ -136,12 +136,32 @@ refused-number (suc more) index rest {number} {at} e z =
     later-refused (refused n i) e = e
     later-refused (cues cs) e = not-both (sym e)
 
+-- so a book is refused, with that number and index, or is its cues
+pub refused-book : (book : List ℕ) → (refusalOf (readBook book) ≡ 0 → ⊥) → readBook book ≡ refused (refusalOf (readBook book)) (numberOf (readBook book))
+refused-book book = by-reading (readBook book)
+  where
+    by-reading : (r : Reading) → (refusalOf r ≡ 0 → ⊥) → r ≡ refused (refusalOf r) (numberOf r)
+    by-reading (refused number index) some = refl
+    by-reading (cues cs) some = absurd (some refl)
+
+pub accepted-book : (book : List ℕ) → refusalOf (readBook book) ≡ 0 → (readBook book ≡ cues (cuesIn (readBook book))) × (numberOf (readBook book) ≡ length (cuesIn (readBook book)))
+unfolding readBook
+accepted-book book z = by-reading (readBook book) refl
+  where
+    by-reading : (r : Reading) → readBook book ≡ r → (readBook book ≡ cues (cuesIn (readBook book))) × (numberOf (readBook book) ≡ length (cuesIn (readBook book)))
+    by-reading (refused number index) e = absurd (refused-number 999 0 book e (sym (ap refusalOf e) ∙ z))
+    by-reading (cues cs) e = (e ∙ ap (λ (r : Reading). cues (cuesIn r)) (sym e), ap numberOf e ∙ ap (λ (r : Reading). length (cuesIn r)) (sym e))
+
 -- ---- where cues and titles stand
 
 pub after-cue : (rest : List ℕ) → drop (cueSize rest) rest ≡ afterCue rest
 after-cue rest =
     sym (drop-drop (fieldSize (afterPhrase rest) + fieldSize (afterOrdinal rest)) (fieldSize rest) rest)
     ∙ sym (drop-drop (fieldSize (afterOrdinal rest)) (fieldSize (afterPhrase rest)) (afterPhrase rest))
+
+-- the same by places of the book
+pub after-at-cue : (book : List ℕ) (place : ℕ) → drop (place + cueSize (drop place book)) book ≡ afterCue (drop place book)
+after-at-cue book place = sym (drop-drop (cueSize (drop place book)) place book) ∙ after-cue (drop place book)
 
 -- the first cue left out, the others stand where they did
 place-next : (rest : List ℕ) (k : ℕ) → cuePlace rest (suc k) ≡ cueSize rest + cuePlace (afterCue rest) k
@@ -229,7 +249,7 @@ module _ {book : List ℕ} {index place : ℕ} (a : Along book index place) wher
   along-next {next} h n e p =
       let m : a .more ≡ suc (a .more - 1) = omega (arith, a .left) in
       let c = cueOf (drop place book) in
-      let rest : drop next book ≡ afterCue (drop place book) = ap (λ (k : ℕ). drop k book) p ∙ sym (drop-drop (cueSize (drop place book)) place book) ∙ after-cue (drop place book) in
+      let rest : drop next book ≡ afterCue (drop place book) = ap (λ (k : ℕ). drop k book) p ∙ after-at-cue book place in
       record {
         done = a .done ++ c ∷ [];
         counted = length-append (a .done) (c ∷ []) ∙ omega (arith, a .counted);

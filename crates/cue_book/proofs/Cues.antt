@@ -1,13 +1,13 @@
 -- A cue read field by field: the cases of `cueRefusal`, and where the three fields stand in the book. Assumes nothing.
 use mathlib.Core.Path.{_≡_, refl, sym, ap, ap₂, _∙_}
-use Prim.Native.Nat.{ℕ, _+_, _-_}
+use Prim.Native.Nat.{ℕ, _+_, _-_, _≤_}
 use native.Mathlib.Omega.{arith}
 use mathlib.Core.List.{List, [], _∷_}
-use lib.ListN.{take, drop}
-use lib.Dec.{eqb}
+use lib.ListN.{length, take, drop, length-drop}
+use lib.Dec.{eqb, leb}
 use denote.Enum.Declared as declared
-use borrow.Author.Tests.{eq-eqb, ne-eqb, eqb-true, eqb-false}
-use Rattle.matching.proofs.Tests.{by-test}
+use borrow.Author.Tests.{eq-eqb, ne-eqb, eqb-true, eqb-false, leb-true}
+use Rattle.matching.proofs.Tests.{by-test, both}
 use Rattle.cue_fields.specs.declared.Due.the-variants.{Phrase, Ordinal, Title}
 use Rattle.cue_fields.specs.Field.{numberIn, fieldLength, fieldSize, fieldBody, afterField, fieldRefusal}
 use Rattle.cue_fields.proofs.Fielded.{Fielded, fielded, field-fine, BodyAt, told-apart, after-field, after-at, ordinal-number}
@@ -113,9 +113,19 @@ module _ {book : List ℕ} {place phrase phrase-end body ordinal-end : ℕ} (p :
 -- the cue was read: it stands there
 pub record CueAt (book : List ℕ) (place phrase phrase-end ordinal title end : ℕ) : Type 0 where
   pub none : cueRefusal (drop place book) ≡ 0
+  pub phrase-is : phrase ≡ place + 3
+  pub phrase-end-is : phrase-end ≡ place + fieldSize (drop place book)
   pub title-is : title ≡ place + titleStart (drop place book)
   pub end-is : end ≡ place + cueSize (drop place book)
   pub meant : record { phrase = part book phrase phrase-end; ordinal = ordinal; title = part book title end } ≡ cueOf (drop place book)
+
+phraseOf : CueAnswer → ℕ
+phraseOf (answer.Cue phrase phrase-end ordinal title end) = phrase
+phraseOf (answer.Refused number) = 0
+
+phraseEnd : CueAnswer → ℕ
+phraseEnd (answer.Cue phrase phrase-end ordinal title end) = phrase-end
+phraseEnd (answer.Refused number) = 0
 
 titleOf : CueAnswer → ℕ
 titleOf (answer.Cue phrase phrase-end ordinal title end) = title
@@ -131,12 +141,14 @@ firstOf d (c ∷ cs) = c
 
 module _ {book : List ℕ} {place : ℕ} {r : CueAnswer} (read : CueRead book place r) where
   pub cue-at : {phrase phrase-end ordinal title end : ℕ} → r ≡ answer.Cue phrase phrase-end ordinal title end → CueAt book place phrase phrase-end ordinal title end
-  unfolding cueAt titleOf cueEnd firstOf
+  unfolding cueAt phraseOf phraseEnd titleOf cueEnd firstOf
   cue-at {phrase} {phrase-end} {ordinal} {title} {end} e =
       let none : cueRefusal (drop place book) ≡ 0 = sym (read .number) ∙ ap cueNumber e in
       let on = eq-eqb (cueRefusal (drop place book)) 0 none in
       record {
         none = none;
+        phrase-is = ap phraseOf (sym e ∙ read .answer) ∙ rw on;
+        phrase-end-is = ap phraseEnd (sym e ∙ read .answer) ∙ rw on;
         title-is = ap titleOf (sym e ∙ read .answer) ∙ rw on;
         end-is = ap cueEnd (sym e ∙ read .answer) ∙ rw on;
         meant = ap (firstOf (cueOf (drop place book))) (ap (cuesMeant book) (sym e) ∙ read .meant) ∙ rw on;
@@ -149,3 +161,23 @@ module _ {book : List ℕ} {place : ℕ} {r : CueAnswer} (read : CueRead book pl
       let rest : List ℕ = drop place book in
       let is : r ≡ answer.Cue (place + 3) (place + fieldSize rest) (numberIn (fieldBody (afterPhrase rest))) (place + titleStart rest) (place + cueSize rest) = read .answer ∙ rw on in
       told-apart (declared.tagOf answers.the-type) is refl t
+
+-- the phrase lies in the book, and its length is allowed
+pub record PhraseInside (book : List ℕ) (phrase phrase-end : ℕ) : Type 0 where
+  pub ordered : phrase ≤ phrase-end
+  pub inside : phrase-end ≤ length book
+  pub some : 1 ≤ phrase-end - phrase
+  pub short : phrase-end - phrase ≤ 1024
+
+pub phrase-inside : {book : List ℕ} {place phrase phrase-end ordinal title end : ℕ} → CueAt book place phrase phrase-end ordinal title end → PhraseInside book phrase phrase-end
+phrase-inside {book} {place} c =
+    let f = cued (drop place book) (c .none) .phrase in
+    let lengths = both (leb 1 (fieldLength (drop place book))) (leb (fieldLength (drop place book)) 1024) (f .lengths) in
+    let some = leb-true 1 (fieldLength (drop place book)) (lengths .0) in
+    let short = leb-true (fieldLength (drop place book)) 1024 (lengths .1) in
+    record {
+      ordered = omega (arith, c .phrase-is, c .phrase-end-is);
+      inside = omega (arith, c .phrase-end-is, f .whole, f .header, length-drop place book);
+      some = omega (arith, c .phrase-is, c .phrase-end-is);
+      short = omega (arith, c .phrase-is, c .phrase-end-is);
+    }

@@ -18,12 +18,12 @@ use Rattle.cue_fields.specs.declared.Due.the-variants.{Phrase, Ordinal, Title}
 use Rattle.cue_fields.specs.Field.{twoBytes, fieldBytes}
 use Rattle.cue_book.specs.Format.{Cue, cueBytes, bookBytes, Valid, AllValid}
 use Rattle.cue_fields.specs.Field.{tagOf, allowed, numberIn, fieldLength, fieldSize, fieldBody, afterField, ordinalZero}
-use Rattle.cue_book.specs.Reading.{afterPhrase, afterOrdinal, afterCue, cueRefusal, cueOf, Reading, refused, cues, followed, readUpTo, readBook, refusalOf}
+use Rattle.cue_book.specs.Reading.{afterPhrase, afterOrdinal, afterCue, cueRefusal, cueOf, refused, cues, followed, readUpTo, readBook, refusalOf, cuesIn}
 use Rattle.cue_writer.specs.Writing.{writeRefusal}
 use Rattle.cue_writer.specs.Bytes.{Bytes, WroteCue, Assembled}
 use Rattle.cue_fields.proofs.Fielded.{Fielded, ordinal-two, ordinal-number}
 use Rattle.cue_book.proofs.Cues.{Cued, cued, cue-fine, same-cue}
-use Rattle.cue_book.proofs.Books.{cue-some, read-end, read-next, begins, ends, refused-number}
+use Rattle.cue_book.proofs.Books.{cue-some, read-end, read-next, begins, ends, accepted-book}
 use Rattle.cue_writer.proofs.Writing.{fitting}
 
 -- ---- what is written reads back
@@ -217,12 +217,7 @@ accepted-written book b cs e = accepts cs 999 0 book b e
 
 -- so every byte string that is no such book is refused
 pub others-refused : (book : List ℕ) → Bytes book → ((cs : List Cue) → Accepted book cs 999 → ⊥) → refusalOf (readBook book) ≡ 0 → ⊥
-unfolding readBook
-others-refused book b other z = by-reading (readBook book) refl
-  where
-    by-reading : (r : Reading) → readBook book ≡ r → ⊥
-    by-reading (cues cs) e = other cs (accepted-written book b cs e)
-    by-reading (refused number index) e = refused-number 999 0 book e (sym (ap refusalOf e) ∙ z)
+others-refused book b other z = other (cuesIn (readBook book)) (accepted-written book b (cuesIn (readBook book)) (accepted-book book z .0))
 
 -- ---- writer and reader fit
 

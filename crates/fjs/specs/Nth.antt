@@ -1,11 +1,10 @@
 -- Where the n-th occurrence stands (ordinal 1 is the first), and what a call that asks for it gives and leaves.
 use mathlib.Core.Path.{_≡_}
 use Prim.Native.Nat.{ℕ, _-_}
-use mathlib.Core.Bool.{Bool, cond, _&&_}
+use mathlib.Core.Bool.{cond}
 use mathlib.Core.List.{List, _++_}
 use lib.ListN.{length, getD, drop}
-use lib.Dec.{leb}
-use Rattle.matching.specs.Occurrences.{occurrences}
+use Rattle.matching.specs.Occurrences.{occurrences, hasNth}
 use Rattle.matching.specs.Find.{accepts, refusalOf}
 use Rattle.fjs.specs.declared.Place.{Place}
 use Rattle.fjs.specs.declared.Place.the-variants.{Refused, At, Nothing}
@@ -16,10 +15,6 @@ abbrev pub number : Place → ℕ
 number (Refused n) = n
 number (At place) = 0
 number Nothing = 12
-
--- whether there is an occurrence of that ordinal, counted from 1
-abbrev pub hasNth : List ℕ → ℕ → Bool
-hasNth positions ordinal = leb 1 ordinal && leb ordinal (length positions)
 
 -- the position of that ordinal among the occurrences
 unfoldable pub nthOf : List ℕ → ℕ → Place

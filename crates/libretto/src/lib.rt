@@ -1,5 +1,5 @@
 // The room of the C interface: each function is exported under the name that include/libretto.h gives it, and carries the exact contract of what it wraps.
-// It leans on `find`, `fold`, `cue_book` and `cue_writer`. `rt staticlib libretto` makes the archive that C and Rust link.
+// It leans on `find`, `fold`, `cue_book`, `cue_writer` and `resolver`. `rt staticlib libretto` makes the archive that C and Rust link.
 use cue_book::Answer;
 use cue_book::Part;
 use matching::Finding;
@@ -9,6 +9,7 @@ ghost use Rattle.fold.specs.Fold.{folded};
 ghost use Rattle.cue_book.specs.Format.{cueWith};
 ghost use Rattle.cue_book.specs.Places.{bookAnswer, TitlePlaced};
 ghost use Rattle.cue_writer.specs.Writing.{Written};
+ghost use Rattle.resolver.specs.Resolver.{Resolved};
 
 // A find by a method number. Slices pass as pointer and length, the finding as a struct of three 32-bit numbers.
 #[no_mangle]
@@ -59,4 +60,19 @@ pub extern "C" fn libretto_write_cue(
     ensures { λ r. ⌜ Written (cueWith (now (phrase .entry)) ordinal (now (title .entry))) (now (buffer .entry)) r (now (buffer .exit)) ⌝ }
 {
     cue_writer::write_cue(buffer, phrase, ordinal, title)
+}
+
+// The cues of a book resolved in a text: 0 and the number of cues, or the refusal and its number.
+#[no_mangle]
+pub extern "C" fn libretto_resolve(
+    book: &[u8],
+    text: &[u8],
+    copy: &mut [u8],
+    phrase: &mut [u8],
+    scratch: &mut [u16],
+    entries: &mut [u32],
+) -> Answer
+    ensures { λ r. ⌜ Resolved (now (book .entry)) (now (text .entry)) (now (copy .entry)) (now (phrase .entry)) (now (scratch .entry)) (now (entries .entry)) r (now (copy .exit)) (now (phrase .exit)) (now (scratch .exit)) (now (entries .exit)) ⌝ }
+{
+    resolver::resolve(book, text, copy, phrase, scratch, entries)
 }

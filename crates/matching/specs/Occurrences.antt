@@ -5,7 +5,7 @@ use Prim.Native.Nat.{ℕ, zero, suc}
 use mathlib.Core.Bool.{Bool, true, false, cond, _&&_}
 use mathlib.Core.List.{List, [], _∷_}
 use lib.ListN.{length, take, drop}
-use lib.Dec.{eqb}
+use lib.Dec.{eqb, leb}
 
 -- whether two lists of letters are equal
 unfoldable pub same : List ℕ → List ℕ → Bool
@@ -29,3 +29,7 @@ occursFrom (suc c) P T k = let rest = occursFrom c P T (suc k) in cond (occursAt
 unfoldable pub occurrences : List ℕ → List ℕ → List ℕ
 unfolding occursFrom
 occurrences P T = occursFrom (suc (length T)) P T 0
+
+-- whether there is an occurrence of that ordinal among these positions, 1 being the first
+abbrev pub hasNth : List ℕ → ℕ → Bool
+hasNth positions ordinal = leb 1 ordinal && leb ordinal (length positions)

@@ -9,7 +9,7 @@ use mathlib.Core.List.{List, _++_}
 use lib.ListN.{length, getD, drop}
 use lib.Dec.{leb}
 use borrow.Author.Tests.{eq-eqb, ne-eqb, le-leb, lt-leb, leb-true, leb-false}
-use Rattle.matching.specs.Occurrences.{occurrences}
+use Rattle.matching.specs.Occurrences.{occurrences, hasNth}
 use Rattle.matching.specs.Find.{refusalOf}
 use Rattle.matching.proofs.Tests.{by-test}
 use Rattle.matching.proofs.Occurrences.{occurrences-below}
@@ -18,9 +18,8 @@ use Rattle.fjs.specs.declared.Place.{Place}
 use Rattle.fjs.specs.declared.Place.the-variants.{Refused, At, Nothing}
 use Rattle.fjs.specs.declared.Tally.{Tally}
 use Rattle.fjs.specs.Fjs.{fjs}
-use Rattle.fjs.specs.Nth.{number, hasNth, nthOf, nthAnswer, Located}
+use Rattle.fjs.specs.Nth.{number, nthOf, nthAnswer, Located}
 use Rattle.fjs.specs.Search.{Searched}
-use borrow.Author.Needs.{needs}
 use Rattle.fjs.proofs.nth.Statement.{statement}
 use Rattle.fjs.proofs.nth.Tie as tie
 

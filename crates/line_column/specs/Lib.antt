@@ -1,0 +1,2 @@
+-- The line rule.
+pub mod LineColumn

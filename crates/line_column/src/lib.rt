@@ -1,0 +1,56 @@
+// The room of the line rule (document 01, "Cue book, folding, lines"): which line of a text a place stands in, and at which column.
+// It leans on `matching` for case analysis alone. The rule is one definition, `lineColumn`, and one function, so that another rule can take its place.
+ghost use mathlib.Core.Path.{_≡_};
+ghost use Prim.Native.Nat.{_≤_};
+ghost use lib.ListN.{length, take};
+ghost use Rattle.line_column.specs.LineColumn.{breaks, sinceBreak, lineColumn};
+
+// A line and a column, both from 1.
+pub struct LineColumn {
+    pub line: usize,
+    pub column: usize,
+}
+
+// How many of the first `end` bytes end a line.
+fn count_breaks(text: &[u8], end: usize) -> usize
+    requires { ⌜ end ≤ length (now text) ⌝ }
+    ensures { λ r. ⌜ r ≡ breaks (take end (now (text .entry))) ⌝ }
+{
+    let mut count = 0;
+    let mut i = 0;
+    while i < end {
+        if text[i] == 10 {
+            count += 1;
+        }
+        i += 1;
+    }
+    count
+}
+
+// How many bytes stand after the last line end among the first `end`: it looks back from there.
+fn count_back(text: &[u8], end: usize) -> usize
+    requires { ⌜ end ≤ length (now text) ⌝ }
+    ensures { λ r. ⌜ r ≡ sinceBreak 0 (take end (now (text .entry))) ⌝ }
+{
+    let mut start = end;
+    while 0 < start {
+        if text[start - 1] == 10 {
+            break;
+        }
+        start -= 1;
+    }
+    end - start
+}
+
+// The line and the column of a place; a place past the text's end has those of the end.
+pub fn line_column(text: &[u8], place: usize) -> LineColumn
+    ensures { λ r. ⌜ r ≡ lineColumn (now (text .entry)) place ⌝ }
+{
+    let mut end = place;
+    if text.len() < place {
+        end = text.len();
+    }
+    let line = count_breaks(text, end) + 1;
+    let column = count_back(text, end) + 1;
+    LineColumn { line, column }
+}

@@ -1,0 +1,124 @@
+-- A call of the resolver by its cases: what the tests of the memory leave, the outcome, and what is given back and left. Assumes nothing.
+use mathlib.Core.Path.{_≡_, refl, sym, ap, subst, _∙_}
+use Prim.Native.Nat.{ℕ, _*_, _≤_, _<_}
+use native.Mathlib.Omega.{arith}
+use mathlib.Core.Bool.{Bool, true, cond}
+use mathlib.Core.List.{List, _++_, map}
+use lib.ListN.{length, drop, replicate}
+use lib.Dec.{eqb, ltb}
+use borrow.Author.Tests.{eq-eqb, ne-eqb, lt-ltb, le-ltb, ltb-true, ltb-false}
+use Rattle.matching.specs.Received.{received}
+use Rattle.matching.proofs.Tests.{by-test}
+use Rattle.matching.proofs.Received.{received-none}
+use Rattle.fold.specs.Fold.{folded}
+use Rattle.cue_fields.proofs.Fielded.{clash}
+use Rattle.cue_book.specs.declared.Answer.{Answer}
+use Rattle.cue_book.specs.Format.{Cue}
+use Rattle.cue_book.specs.Reading.{refused, cues, readBook, refusalOf, numberOf, cuesIn}
+use Rattle.cue_book.specs.Places.{bookAnswer}
+use Rattle.cue_book.proofs.Books.{refused-book}
+use Rattle.resolver.specs.Resolver.{resolveFrom, memoryRefusal, refusing, withBook, outcome, Resolved}
+use Rattle.resolver.specs.Walking.{Placed}
+
+-- ---- the tests of the memory
+
+module _ (n copy phrase scratch : ℕ) where
+  pub memory-text : 32768 < n → memoryRefusal n copy phrase scratch ≡ 4
+  unfolding memoryRefusal
+  memory-text h = rw (lt-ltb 32768 n h)
+
+  module _ (small : n ≤ 32768) where
+    pub memory-scratch : scratch < 1281 → memoryRefusal n copy phrase scratch ≡ 5
+    unfolding memoryRefusal
+    memory-scratch h = rw (le-ltb 32768 n small, lt-ltb scratch 1281 h)
+
+    module _ (tables : 1281 ≤ scratch) where
+      pub memory-copy : copy < n → memoryRefusal n copy phrase scratch ≡ 6
+      unfolding memoryRefusal
+      memory-copy h = rw (le-ltb 32768 n small, le-ltb scratch 1281 tables, lt-ltb copy n h)
+
+      module _ (whole : n ≤ copy) where
+        pub memory-phrase : phrase < 1024 → memoryRefusal n copy phrase scratch ≡ 6
+        unfolding memoryRefusal
+        memory-phrase h = rw (le-ltb 32768 n small, le-ltb scratch 1281 tables, le-ltb copy n whole, lt-ltb phrase 1024 h)
+
+        pub memory-fine : 1024 ≤ phrase → memoryRefusal n copy phrase scratch ≡ 0
+        unfolding memoryRefusal
+        memory-fine h = rw (le-ltb 32768 n small, le-ltb scratch 1281 tables, le-ltb copy n whole, le-ltb phrase 1024 h)
+
+  -- what holds where none refuses
+  pub record Enough : Type 0 where
+    pub small : n ≤ 32768
+    pub tables : 1281 ≤ scratch
+    pub whole : n ≤ copy
+    pub buffer : 1024 ≤ phrase
+
+  pub enough : memoryRefusal n copy phrase scratch ≡ 0 → Enough
+  enough e =
+      by-test (λ _. Enough) (ltb 32768 n)
+      (λ t. clash 4 (omega arith) (memory-text (ltb-true 32768 n t)) e)
+      (λ t.
+      let small = ltb-false 32768 n t in
+      by-test (λ _. Enough) (ltb scratch 1281)
+      (λ u. clash 5 (omega arith) (memory-scratch small (ltb-true scratch 1281 u)) e)
+      (λ u.
+      let tables = ltb-false scratch 1281 u in
+      by-test (λ _. Enough) (ltb copy n)
+      (λ v. clash 6 (omega arith) (memory-copy small tables (ltb-true copy n v)) e)
+      (λ v.
+      let whole = ltb-false copy n v in
+      by-test (λ _. Enough) (ltb phrase 1024)
+      (λ w. clash 6 (omega arith) (memory-phrase small tables whole (ltb-true phrase 1024 w)) e)
+      (λ w. record { small = small; tables = tables; whole = whole; buffer = ltb-false phrase 1024 w }))))
+
+-- ---- the outcome by what the book reads as
+
+with-refused : (text : List ℕ) (room number index : ℕ) → withBook text room (refused number index) ≡ refusing number index
+unfolding withBook
+with-refused text room number index = refl
+
+with-few : (text : List ℕ) (room : ℕ) (cs : List Cue) → room < 3 * length cs → withBook text room (cues cs) ≡ refusing 11 0
+unfolding withBook
+with-few text room cs h = rw (lt-ltb room (3 * length cs) h)
+
+with-room : (text : List ℕ) (room : ℕ) (cs : List Cue) → 3 * length cs ≤ room → withBook text room (cues cs) ≡ record { works = true; resolution = resolveFrom 0 text cs }
+unfolding withBook
+with-room text room cs h = rw (le-ltb room (3 * length cs) h)
+
+-- ---- what is given back and left
+
+module _ (book text copy phrase scratch entries : List ℕ) where
+  -- refused: all as before
+  resolved-refused : {number index : ℕ} → outcome book text copy phrase scratch entries ≡ refusing number index → Resolved book text copy phrase scratch entries (record { refusal = number; number = index }) copy phrase scratch entries
+  resolved-refused e = record { answer = rw e; copied = rw e; cleared = rw e; emptied = rw e; entered = rw e (sym (received-none entries)) }
+
+  pub resolved-memory : {number : ℕ} → number ≡ memoryRefusal (length text) (length copy) (length phrase) (length scratch) → (number ≡ 0 → ⊥)
+      → Resolved book text copy phrase scratch entries (record { refusal = number; number = 0 }) copy phrase scratch entries
+  unfolding outcome
+  resolved-memory {number} e some =
+      resolved-refused (rw (ne-eqb (memoryRefusal (length text) (length copy) (length phrase) (length scratch)) 0 (λ z. some (e ∙ z))) (ap (λ (m : ℕ). refusing m 0) (sym e)))
+
+  module _ (fine : memoryRefusal (length text) (length copy) (length phrase) (length scratch) ≡ 0) where
+    outcome-fine : outcome book text copy phrase scratch entries ≡ withBook text (length entries) (readBook book)
+    unfolding outcome
+    outcome-fine =
+        ap (λ (t : Bool). cond t (withBook text (length entries) (readBook book)) (refusing (memoryRefusal (length text) (length copy) (length phrase) (length scratch)) 0))
+        (eq-eqb (memoryRefusal (length text) (length copy) (length phrase) (length scratch)) 0 fine)
+
+    pub resolved-book : {r : Answer} → r ≡ bookAnswer book → (r .refusal ≡ 0 → ⊥) → Resolved book text copy phrase scratch entries r copy phrase scratch entries
+    resolved-book is some =
+        let e = refused-book book (λ z. some (ap (λ (a : Answer). a .refusal) is ∙ z)) in
+        subst (λ (a : Answer). Resolved book text copy phrase scratch entries a copy phrase scratch entries) (sym is)
+        (resolved-refused (outcome-fine ∙ ap (withBook text (length entries)) e ∙ with-refused text (length entries) (refusalOf (readBook book)) (numberOf (readBook book))))
+
+    pub resolved-room : {cs : List Cue} → readBook book ≡ cues cs → length entries < 3 * length cs → Resolved book text copy phrase scratch entries (record { refusal = 11; number = 0 }) copy phrase scratch entries
+    resolved-room {cs} e h = resolved-refused (outcome-fine ∙ ap (withBook text (length entries)) e ∙ with-few text (length entries) cs h)
+
+    -- the cues were resolved
+    pub resolved-works : {r : Answer} {copy′ phrase′ scratch′ entries′ : List ℕ} → readBook book ≡ cues (cuesIn (readBook book)) → 3 * length (cuesIn (readBook book)) ≤ length entries
+        → copy′ ≡ map folded text ++ drop (length text) copy → phrase′ ≡ replicate (length phrase) 0 → scratch′ ≡ replicate (length scratch) 0 → Placed book text entries r entries′
+        → Resolved book text copy phrase scratch entries r copy′ phrase′ scratch′ entries′
+    resolved-works read room c p s placed =
+        let cs = cuesIn (readBook book) in
+        let e = outcome-fine ∙ ap (withBook text (length entries)) read ∙ with-room text (length entries) cs room in
+        record { answer = rw e (placed .answer); copied = rw e c; cleared = rw e p; emptied = rw e s; entered = rw e (placed .entered) }

@@ -1,0 +1,67 @@
+-- `resolver::find_cue` meets its contract: the buffer's front is the folded phrase, and FJS gives the occurrence of that ordinal. Assumes nothing.
+use borrow.Author.Needs.{needs}
+use mathlib.Core.Path.{_≡_, sym, ap, _∙_}
+use mathlib.Core.List.{List, map}
+use Prim.Native.Nat.{ℕ}
+use native.Mathlib.Omega.{arith}
+use lib.ListN.{length, take, drop, length-map}
+use lib.Seq.{take-at}
+use Rattle.matching.specs.Occurrences.{occurrences}
+use Rattle.fjs.specs.Nth.{nthOf}
+use Rattle.fold.specs.Fold.{folded}
+use Rattle.resolver.proofs.Resolving.{received-front, nth-is}
+use Rattle.resolver.proofs.find_cue.Statement.{statement}
+use Rattle.resolver.proofs.find_cue.Tie as tie
+
+-- the folded phrase is the buffer's front
+module _ (l : tie.After-letters) where
+  held : let a = l .before .before .before .before .before .before .args in take (length (a .letters .now)) (l .letters .last .1 .0) ≡ map folded (a .letters .now)
+  held =
+      let s = l .before .before .before .before .before .before in
+      let a = s .args in
+      let values = map folded (a .letters .now) in
+      let size = length-map (a .letters .now) folded in
+      ap (λ (x : List ℕ). take (length (a .letters .now)) x) (l .letters .ensures ∙ received-front (a .phrase .now) values (omega (arith, size, s .pre .0 .1, s .pre .1 .1 .0)))
+      ∙ take-at values (drop (length values) (a .phrase .now)) (length (a .letters .now)) size
+
+  size-held : let a = l .before .before .before .before .before .before .args in length (take (length (a .letters .now)) (l .letters .last .1 .0)) ≡ length (a .letters .now)
+  size-held = ap length held ∙ length-map (l .before .before .before .before .before .before .args .letters .now) folded
+
+letters-requires : tie.Need-letters-requires
+letters-requires c κs = search needs
+
+slice-reshare-prefix-nth : tie.Need-slice-reshare-prefix-nth
+slice-reshare-prefix-nth c = search needs
+
+slice-aggregate-nth : tie.Need-slice-aggregate-nth
+slice-aggregate-nth c = sym (size-held (c .before .before .before))
+
+nth-requires : tie.Need-nth-requires
+nth-requires c κs = search needs
+
+same-length : tie.Need-same-length
+same-length c = search needs
+
+same-length-2 : tie.Need-same-length-2
+same-length-2 c = search needs
+
+returns : tie.Need-returns
+returns c =
+    let n = c .before .before in
+    let l = n .before .before .before .before .before in
+    let s = l .before .before .before .before .before .before in
+    let a = s .args in
+    nth-is (n .nth .ensures) (omega (arith, size-held l, s .pre .0 .0)) (omega (arith, size-held l, s .pre .0 .1)) (s .pre .1 .0) (s .pre .1 .1 .1)
+    ∙ ap (λ (P : List ℕ). nthOf (occurrences P (a .copy .now)) (a .ordinal)) (held l)
+
+pub find-cue-spec : {M : Type 1} → statement M
+find-cue-spec =
+    tie.close
+    (tie.spec
+    letters-requires
+    slice-reshare-prefix-nth
+    slice-aggregate-nth
+    nth-requires
+    same-length
+    same-length-2
+    returns)

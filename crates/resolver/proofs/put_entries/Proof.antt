@@ -1,0 +1,75 @@
+-- `resolver::put_entries` meets its contract: three entries, one after another. Assumes nothing.
+use borrow.Author.Needs.{needs}
+use mathlib.Core.Path.{_≡_, ap, ap₂, _∙_}
+use mathlib.Core.List.{List}
+use Prim.Native.Nat.{ℕ, _+_}
+use native.Mathlib.Omega.{arith}
+use lib.ListN.{length, set}
+use Rattle.line_column.specs.declared.LineColumn.{LineColumn}
+use Rattle.line_column.specs.LineColumn.{lineColumn}
+use Rattle.line_column.proofs.Lines.{line-small, column-small}
+use Rattle.resolver.proofs.put_entries.Statement.{statement}
+use Rattle.resolver.proofs.put_entries.Tie as tie
+
+line-column-requires : tie.Need-line-column-requires
+line-column-requires c κs = search needs
+
+cast-line : tie.Need-cast-line
+cast-line c =
+    let k = c .before in
+    let a = k .before .before .before .args in
+    let is : k .line-column .result ≡ lineColumn (a .text .now) (a .place) = k .line-column .ensures in
+    omega (arith, ap (λ (x : LineColumn). x .line) is, line-small (a .text .now) (a .place), k .before .before .before .pre .1)
+
+cast-column : tie.Need-cast-column
+cast-column c =
+    let k = c .before .before in
+    let a = k .before .before .before .args in
+    let is : k .line-column .result ≡ lineColumn (a .text .now) (a .place) = k .line-column .ensures in
+    omega (arith, ap (λ (x : LineColumn). x .column) is, column-small (a .text .now) (a .place), k .before .before .before .pre .1)
+
+store-requires : tie.Need-store-requires
+store-requires c κs = search needs
+
+add-store : tie.Need-add-store
+add-store c = search needs
+
+store-requires-2 : tie.Need-store-requires-2
+store-requires-2 c κs = search needs
+
+add-store-2 : tie.Need-add-store-2
+add-store-2 c = search needs
+
+store-requires-3 : tie.Need-store-requires-3
+store-requires-3 c κs = search needs
+
+same-length : tie.Need-same-length
+same-length c = search needs
+
+returns : tie.Need-returns
+returns c =
+    let third = c .before .before in
+    let second = third .before .before .before .before in
+    let first = second .before .before .before .before in
+    let k = first .before .before .before .before in
+    let a = k .before .before .before .args in
+    let is : k .line-column .result ≡ lineColumn (a .text .now) (a .place) = k .line-column .ensures in
+    third .store3 .ensures
+    ∙ ap₂ (λ (l : List ℕ) (v : ℕ). set l (a .at + 2) v)
+    (second .store2 .ensures ∙ ap₂ (λ (l : List ℕ) (v : ℕ). set l (a .at + 1) v) (first .store .ensures) (ap (λ (x : LineColumn). x .line) is))
+    (ap (λ (x : LineColumn). x .column) is)
+
+pub put-entries-spec : {M : Type 1} → statement M
+put-entries-spec =
+    tie.close
+    (tie.spec
+    line-column-requires
+    cast-line
+    cast-column
+    store-requires
+    add-store
+    store-requires-2
+    add-store-2
+    store-requires-3
+    same-length
+    returns)

@@ -1,0 +1,212 @@
+-- `resolver::resolve_cues` meets its contract. The loop's invariant: the entries of the cues so far are put, and they and what the rest resolves to are the whole (`Doing`); phrase buffer and
+-- scratch keep their lengths. Assumes nothing.
+use borrow.Author.Needs.{needs}
+use mathlib.Core.Path.{_≡_, refl, ap, ap₂, _∙_}
+use mathlib.Core.List.{List, map}
+use Prim.Native.Nat.{ℕ, _-_, _≤_}
+use native.Mathlib.Omega.{arith}
+use lib.ListN.{length, take, drop, length-drop, length-map}
+use lib.Seq.{length-take-le}
+use Rattle.matching.specs.Occurrences.{occurrences}
+use Rattle.matching.specs.Received.{received}
+use Rattle.matching.proofs.Received.{length-received}
+use Rattle.fold.specs.Fold.{folded}
+use Rattle.fjs.specs.Nth.{nthOf}
+use Rattle.cue_book.specs.Format.{Cue, cueWith}
+use Rattle.cue_book.specs.Reading.{readBook, cuesIn}
+use Rattle.cue_book.specs.Places.{part}
+use Rattle.cue_book.proofs.Cues.{CueAt, cue-at, cue-refused-some, phrase-inside}
+use Rattle.resolver.specs.Resolver.{cueOccurrences}
+use Rattle.resolver.proofs.Walking.{found-there, found-not, Doing, doing-first, Next, doing-cue, doing-end, doing-missing, doing-next, doing-put, placed}
+use Rattle.resolver.proofs.resolve_cues.Statement.{statement}
+use Rattle.resolver.proofs.resolve_cues.Tie as tie
+
+abbrev Inv-loop : tie.InvT-loop
+Inv-loop book text copy phrase₀ scratch₀ entries₀ index₀ at₀ place₀ phrase scratch entries index at place =
+    Doing book text (cuesIn (readBook book)) entries₀ index at place entries × ((length phrase ≡ length phrase₀) × (length scratch ≡ length scratch₀))
+
+abbrev μ-loop : tie.MeasureT-loop
+μ-loop book text copy phrase₀ scratch₀ entries₀ index₀ at₀ place₀ phrase scratch entries index at place =
+    length book - place
+
+-- the next cue of the book, and where it stands
+next : (i : tie.In-loop Inv-loop μ-loop) → let l = i .before in Next (l .before .before .before .before .before .before .before .args .book .now) (l .loop .inv .0 .more) (l .loop .index) (l .loop .place) (l .loop .inv .0 .rest)
+next i = doing-cue (i .before .loop .inv .0) (i .loop-test .taken)
+
+module _ (k : tie.After-known-told Inv-loop μ-loop) where
+  this : let g = k .before .cue .given .0 in let l = k .before .before .before .before .before in
+      CueAt (l .before .before .before .before .before .before .before .args .book .now) (l .loop .place) (g .0) (g .1 .0) (g .1 .1 .0) (g .1 .1 .1 .0) (g .1 .1 .1 .1 .0)
+  this = cue-at (k .before .before .before .read-cue .ensures) (k .before .cue .given .1)
+
+  -- its phrase's bytes
+  letters : List ℕ
+  letters = let g = k .before .cue .given .0 in part (k .before .before .before .before .before .before .before .before .before .before .before .before .args .book .now) (g .0) (g .1 .0)
+
+  size : let g = k .before .cue .given .0 in length letters ≡ g .1 .0 - g .0
+  unfolding letters
+  size =
+      let g = k .before .cue .given .0 in
+      let book = k .before .before .before .before .before .before .before .before .before .before .before .before .args .book .now in
+      let i = phrase-inside this in
+      length-take-le (g .1 .0 - g .0) (drop (g .0) book) (omega (arith, i .inside, i .ordered, length-drop (g .0) book))
+
+  -- the cue that it is
+  means : let g = k .before .cue .given .0 in cueWith letters (g .1 .1 .0) (part (k .before .before .before .before .before .before .before .before .before .before .before .before .args .book .now) (g .1 .1 .1 .0) (g .1 .1 .1 .1 .0)) ≡ next (k .before .before .before .before) .cue
+  unfolding letters
+  means = this .meant ∙ next (k .before .before .before .before) .begun .cue
+
+-- the entries keep their length
+kept : (l : tie.At-loop Inv-loop μ-loop) → length (l .loop .entries) ≡ length (l .before .before .before .before .before .before .before .args .entries .now)
+kept l = ap length (l .loop .inv .0 .entered) ∙ length-received (l .before .before .before .before .before .before .before .args .entries .now) (l .loop .inv .0 .written)
+
+-- what was looked for is the occurrence that the cue names
+found : (f : tie.After-find-cue Inv-loop μ-loop) → let k = f .before .before .before .before in let l = k .before .before .before .before .before in let c = next (k .before .before .before .before) .cue in
+    f .find-cue .result ≡ nthOf (cueOccurrences (l .before .before .before .before .before .before .before .args .text .now) c) (c .ordinal)
+unfolding cueOccurrences letters
+found f =
+    let k = f .before .before .before .before in
+    let l = k .before .before .before .before .before in
+    let s = l .before .before .before .before .before .before .before in
+    let a = s .args in
+    let c = next (k .before .before .before .before) .cue in
+    f .find-cue .ensures
+    ∙ ap₂ (λ (P : List ℕ) (o : ℕ). nthOf (occurrences (map folded P) (a .copy .now)) o) (ap (λ (x : Cue). x .phrase) (means k)) (ap (λ (x : Cue). x .ordinal) (means k))
+    ∙ ap (λ (T : List ℕ). nthOf (occurrences (map folded (c .phrase)) T) (c .ordinal)) (s .pre .copied)
+
+loop-holds : tie.Need-loop-holds Inv-loop μ-loop
+loop-holds c = let s = c .before .before .before .before .before .before in let a = s .args in (doing-first (a .book .now) (a .text .now) (cuesIn (readBook (a .book .now))) (a .entries .now) (s .pre .read), (refl, refl))
+
+read-cue-requires : tie.Need-read-cue-requires Inv-loop μ-loop
+read-cue-requires c κs = search needs
+
+enum-known-cue : tie.Need-enum-known-cue Inv-loop μ-loop
+enum-known-cue c = search needs
+
+enum-told : tie.Need-enum-told Inv-loop μ-loop
+enum-told c = search needs
+
+same-length : tie.Need-same-length Inv-loop μ-loop
+same-length c = c .before .before .before .before .loop .inv .1 .0
+
+same-length-2 : tie.Need-same-length-2 Inv-loop μ-loop
+same-length-2 c = c .before .before .before .before .loop .inv .1 .1
+
+same-length-3 : tie.Need-same-length-3 Inv-loop μ-loop
+same-length-3 c = kept (c .before .before .before .before)
+
+returns : tie.Need-returns Inv-loop μ-loop
+returns c = let r = c .before .before in absurd (cue-refused-some (r .read-cue .ensures) (c .before .match .keys2) (r .read-cue .ensures .number ∙ next (r .before) .begun .none))
+
+sub-find-cue : tie.Need-sub-find-cue Inv-loop μ-loop
+sub-find-cue c = phrase-inside (this c) .ordered
+
+part-find-cue-start : tie.Need-part-find-cue-start Inv-loop μ-loop
+part-find-cue-start c = phrase-inside (this c) .ordered
+
+part-find-cue-end : tie.Need-part-find-cue-end Inv-loop μ-loop
+part-find-cue-end c = phrase-inside (this c) .inside
+
+find-cue-requires : tie.Need-find-cue-requires Inv-loop μ-loop
+unfolding letters
+find-cue-requires c κs =
+    let k = c .before .before .before in
+    let l = k .before .before .before .before .before in
+    let s = l .before .before .before .before .before .before .before in
+    let i = phrase-inside (this k) in
+    let some : 1 ≤ length (letters k) = omega (arith, size k, i .some) in
+    let short : length (letters k) ≤ 1024 = omega (arith, size k, i .short) in
+    let buffer : 1024 ≤ length (l .loop .phrase) = omega (arith, l .loop .inv .1 .0, s .pre .buffer) in
+    let tables : 1281 ≤ length (l .loop .scratch) = omega (arith, l .loop .inv .1 .1, s .pre .tables) in
+    ((some, short), (omega (arith, ap length (s .pre .copied), length-map (s .args .text .now) folded, s .pre .small), (buffer, tables)))
+
+enum-known-found : tie.Need-enum-known-found Inv-loop μ-loop
+enum-known-found c = search needs
+
+same-length-4 : tie.Need-same-length-4 Inv-loop μ-loop
+same-length-4 c = let f = c .before .before .before .before .before in f .find-cue .kept .1 .1 .1 .0 ∙ f .before .before .before .before .before .before .before .before .before .loop .inv .1 .0
+
+same-length-5 : tie.Need-same-length-5 Inv-loop μ-loop
+same-length-5 c = let f = c .before .before .before .before .before in f .find-cue .kept .1 .1 .1 .1 .0 ∙ f .before .before .before .before .before .before .before .before .before .loop .inv .1 .1
+
+same-length-6 : tie.Need-same-length-6 Inv-loop μ-loop
+same-length-6 c = kept (c .before .before .before .before .before .before .before .before .before .before .before .before .before .before)
+
+returns-2 : tie.Need-returns-2 Inv-loop μ-loop
+returns-2 c =
+    let f = c .before .before .before .before .before in
+    let k = f .before .before .before .before in
+    let l = k .before .before .before .before .before in
+    let n = next (k .before .before .before .before) in
+    placed (doing-missing (l .loop .inv .0) n (found-not _ _ (found f) (c .match2 .keys2))) (l .loop .inv .0 .entered)
+
+put-entries-requires : tie.Need-put-entries-requires Inv-loop μ-loop
+put-entries-requires c κs =
+    let l = c .before .before .before .before .before .before .before .before .before .before .before .before .before .before .before .before .before in
+    let d = l .loop .inv .0 in
+    (omega (arith, d .three, d .left), l .before .before .before .before .before .before .before .pre .small)
+
+add-index : tie.Need-add-index Inv-loop μ-loop
+add-index c = omega (arith, c .before .before .before .before .before .before .before .before .before .before .before .before .before .before .before .before .before .before .before .before .loop .inv .0 .left)
+
+add-at : tie.Need-add-at Inv-loop μ-loop
+add-at c = let d = c .before .before .before .before .before .before .before .before .before .before .before .before .before .before .before .before .before .before .before .before .loop .inv .0 in omega (arith, d .three, d .left)
+
+loop-less : tie.Need-loop-less Inv-loop μ-loop
+loop-less c = let k = c .before .before .before .before .before .before .before .before .before .before .before .before .before .before .before in let e = this k .end-is in omega (arith, e, k .before .before .before .before .loop-test .taken)
+
+loop-again : tie.Need-loop-again Inv-loop μ-loop
+loop-again c =
+    let p = c .before .before in
+    let t = p .before .before in
+    let f = t .before .before .before .before .before .before .before in
+    let k = f .before .before .before .before in
+    let l = k .before .before .before .before .before in
+    let n = next (k .before .before .before .before) in
+    let d = l .loop .inv .0 in
+    let there = found-there _ _ (found f) (t .before .found .given .1) in
+    (doing-next d n (there .0) (this k .end-is) (p .put-entries .ensures ∙ doing-put d (n .cue) (there .1)), (f .find-cue .kept .1 .1 .1 .0 ∙ l .loop .inv .1 .0, f .find-cue .kept .1 .1 .1 .1 .0 ∙ l .loop .inv .1 .1))
+
+same-length-7 : tie.Need-same-length-7 Inv-loop μ-loop
+same-length-7 c = c .before .loop .inv .1 .0
+
+same-length-8 : tie.Need-same-length-8 Inv-loop μ-loop
+same-length-8 c = c .before .loop .inv .1 .1
+
+same-length-9 : tie.Need-same-length-9 Inv-loop μ-loop
+same-length-9 c = kept (c .before)
+
+returns-3 : tie.Need-returns-3 Inv-loop μ-loop
+returns-3 c = let d = c .before .loop .inv .0 in placed (doing-end d (c .loop-test .left)) (d .entered)
+
+pub resolve-cues-spec : {M : Type 1} → statement M
+resolve-cues-spec =
+    tie.close
+    (tie.spec
+    Inv-loop
+    μ-loop
+    loop-holds
+    read-cue-requires
+    enum-known-cue
+    enum-told
+    same-length
+    same-length-2
+    same-length-3
+    returns
+    sub-find-cue
+    part-find-cue-start
+    part-find-cue-end
+    find-cue-requires
+    enum-known-found
+    same-length-4
+    same-length-5
+    same-length-6
+    returns-2
+    put-entries-requires
+    add-index
+    add-at
+    loop-less
+    loop-again
+    same-length-7
+    same-length-8
+    same-length-9
+    returns-3)

@@ -1,0 +1,3 @@
+-- What resolving is, and what the resolver asks of its walk over the cues.
+pub mod Resolver
+pub mod Walking

@@ -1,0 +1,24 @@
+-- What the resolver asks of its walk over the cues. Not part of any public promise.
+use mathlib.Core.Path.{_≡_}
+use Prim.Native.Nat.{ℕ, _*_, _≤_}
+use mathlib.Core.List.{List, map}
+use lib.ListN.{length}
+use Rattle.matching.specs.Received.{received}
+use Rattle.fold.specs.Fold.{folded}
+use Rattle.cue_book.specs.declared.Answer.{Answer}
+use Rattle.cue_book.specs.Reading.{cues, readBook, cuesIn}
+use Rattle.resolver.specs.Resolver.{resolveFrom}
+
+-- every test before 12 was passed, and the text is folded
+pub record Ready (book text copy phrase scratch entries : List ℕ) : Type 0 where
+  pub read : readBook book ≡ cues (cuesIn (readBook book))
+  pub room : 3 * length (cuesIn (readBook book)) ≤ length entries
+  pub small : length text ≤ 32768
+  pub copied : copy ≡ map folded text
+  pub buffer : 1024 ≤ length phrase
+  pub tables : 1281 ≤ length scratch
+
+-- the answer, and the entries
+pub record Placed (book text entries : List ℕ) (r : Answer) (entries′ : List ℕ) : Type 0 where
+  pub answer : r ≡ record { refusal = resolveFrom 0 text (cuesIn (readBook book)) .refusal; number = resolveFrom 0 text (cuesIn (readBook book)) .number }
+  pub entered : entries′ ≡ received entries (resolveFrom 0 text (cuesIn (readBook book)) .written)

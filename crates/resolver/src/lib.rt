@@ -1,0 +1,169 @@
+// The room of the resolver (document 01, "Cue book, folding, lines"): from the cues of a book to place, line and column.
+// It leans on `cue_book` for the cues, on `fold`, on `fjs` for the occurrence that a cue names, and on `line_column` for the line rule.
+use cue_book::Answer;
+use cue_book::CueAnswer;
+use fjs::Place;
+ghost use mathlib.Core.Path.{_≡_};
+ghost use mathlib.Core.List.{map};
+ghost use Prim.Native.Nat.{_+_, _≤_};
+ghost use lib.ListN.{length, set, replicate};
+ghost use Rattle.matching.specs.Occurrences.{occurrences};
+ghost use Rattle.fold.specs.Fold.{folded};
+ghost use Rattle.fjs.specs.Nth.{nthOf};
+ghost use Rattle.line_column.specs.LineColumn.{lineColumn};
+ghost use Rattle.resolver.specs.Resolver.{memoryRefusal, Resolved};
+ghost use Rattle.resolver.specs.Walking.{Ready, Placed};
+
+// The tests of the text and of the lent memory, before the book is read; 0 for none.
+fn memory_refusal(n: usize, copy: usize, phrase: usize, scratch: usize) -> u32
+    ensures { λ r. ⌜ r ≡ memoryRefusal n copy phrase scratch ⌝ }
+{
+    if 32768 < n {
+        return 4;
+    }
+    if scratch < 1281 {
+        return 5;
+    }
+    if copy < n {
+        return 6;
+    }
+    if phrase < 1024 {
+        return 6;
+    }
+    0
+}
+
+// Makes every byte 0.
+fn clear_bytes(bytes: &mut [u8])
+    ensures { λ _. ⌜ now (bytes .exit) ≡ replicate (length (now (bytes .entry))) 0 ⌝ }
+{
+    let mut i = 0;
+    while i < bytes.len() {
+        bytes[i] = 0;
+        i += 1;
+    }
+}
+
+// Makes every 16-bit number 0.
+fn clear_numbers(numbers: &mut [u16])
+    ensures { λ _. ⌜ now (numbers .exit) ≡ replicate (length (now (numbers .entry))) 0 ⌝ }
+{
+    let mut i = 0;
+    while i < numbers.len() {
+        numbers[i] = 0;
+        i += 1;
+    }
+}
+
+// Where the occurrence that a cue names stands: its phrase is folded into the buffer, and the search stops there.
+fn find_cue(
+    letters: &[u8],
+    ordinal: u32,
+    copy: &[u8],
+    phrase: &mut [u8],
+    scratch: &mut [u16],
+) -> Place
+    requires { ⌜ (1 ≤ length (now letters)) × (length (now letters) ≤ 1024) ⌝ }
+    requires { ⌜ (length (now copy) ≤ 32768) × ((1024 ≤ length (now phrase)) × (1281 ≤ length (now scratch))) ⌝ }
+    ensures { λ r. ⌜ r ≡ nthOf (occurrences (map folded (now (letters .entry))) (now (copy .entry))) ordinal ⌝ }
+{
+    fold::letters(letters, phrase);
+    let m = letters.len();
+    fjs::nth(&phrase[..m], copy, scratch, ordinal)
+}
+
+// Puts a cue's three entries: place, line, column.
+fn put_entries(entries: &mut [u32], at: usize, text: &[u8], place: u32)
+    requires { ⌜ (at ≤ 3000) × (length (now text) ≤ 32768) ⌝ }
+    ensures { λ _. ⌜ now (entries .exit) ≡ set (set (set (now (entries .entry)) at place) (at + 1) (lineColumn (now (text .entry)) place .line)) (at + 2) (lineColumn (now (text .entry)) place .column) ⌝ }
+{
+    let spot = line_column::line_column(text, place as usize);
+    let line = spot.line as u32;
+    let column = spot.column as u32;
+    matching::store(entries, at, place);
+    matching::store(entries, at + 1, line);
+    matching::store(entries, at + 2, column);
+}
+
+// Resolves cue by cue, reading the book once more, up to the first cue whose occurrence does not exist.
+fn resolve_cues(
+    book: &[u8],
+    text: &[u8],
+    copy: &[u8],
+    phrase: &mut [u8],
+    scratch: &mut [u16],
+    entries: &mut [u32],
+) -> Answer
+    requires { ⌜ Ready (now book) (now text) (now copy) (now phrase) (now scratch) (now entries) ⌝ }
+    ensures { λ r. ⌜ Placed (now (book .entry)) (now (text .entry)) (now (entries .entry)) r (now (entries .exit)) ⌝ }
+{
+    let mut index = 0;
+    let mut at = 0;
+    let mut place = 0;
+    while place < book.len() {
+        let cue = cue_book::read_cue(book, place);
+        let CueAnswer::Cue {
+            phrase: start,
+            phrase_end: stop,
+            ordinal,
+            title: _,
+            end,
+        } = cue
+        else {
+            // the whole book was read before, so every cue is
+            return Answer {
+                refusal: 7,
+                number: index,
+            };
+        };
+        let found = find_cue(&book[start..stop], ordinal, copy, phrase, scratch);
+        let Place::At(position) = found else {
+            return Answer {
+                refusal: 12,
+                number: index,
+            };
+        };
+        put_entries(entries, at, text, position);
+        index += 1;
+        at += 3;
+        place = end;
+    }
+    Answer {
+        refusal: 0,
+        number: index,
+    }
+}
+
+// Resolves the cues of a book in a text: 0 and the number of cues, or the refusal and its number.
+pub fn resolve(
+    book: &[u8],
+    text: &[u8],
+    copy: &mut [u8],
+    phrase: &mut [u8],
+    scratch: &mut [u16],
+    entries: &mut [u32],
+) -> Answer
+    ensures { λ r. ⌜ Resolved (now (book .entry)) (now (text .entry)) (now (copy .entry)) (now (phrase .entry)) (now (scratch .entry)) (now (entries .entry)) r (now (copy .exit)) (now (phrase .exit)) (now (scratch .exit)) (now (entries .exit)) ⌝ }
+{
+    let n = text.len();
+    let refusal = memory_refusal(n, copy.len(), phrase.len(), scratch.len());
+    if refusal != 0 {
+        return Answer { refusal, number: 0 };
+    }
+    let read = cue_book::read_book(book);
+    if read.refusal != 0 {
+        return read;
+    }
+    let cues = read.number as usize;
+    if entries.len() < 3 * cues {
+        return Answer {
+            refusal: 11,
+            number: 0,
+        };
+    }
+    fold::letters(text, copy);
+    let r = resolve_cues(book, text, &copy[..n], phrase, scratch, entries);
+    clear_bytes(phrase);
+    clear_numbers(scratch);
+    r
+}
