@@ -1,9 +1,9 @@
-//! The finding and the cue book of document 01, written again from its words alone: simple, slow, and independent of the library that it is compared
-//! with.
+//! The finding, the cue book and the cue resolver of document 01, written again from its words alone: simple, slow, and independent of the library
+//! that it is compared with.
 //!
 //! [`find`] is the find call; [`finder_output`] is what the finder program prints. Each engine has a file of its own, with its table's rule and its
 //! steps. Tables are made by brute force from their rules. [`read_book`], [`title`] and [`write_cue`] are the calls of the cue book; [`cues`] and
-//! [`read_field`] are what they are made of.
+//! [`read_field`] are what they are made of. [`resolve`] is the resolver, which searches by brute force and shares nothing with the engines.
 
 #![forbid(unsafe_code)]
 
@@ -16,6 +16,7 @@ mod fold;
 mod horspool;
 mod kmp;
 mod naive;
+mod resolver;
 mod sunday;
 
 #[cfg(test)]
@@ -25,6 +26,7 @@ pub use cue_book::{cues, read_book, read_field, title, write_cue, Cue, Field};
 pub use find::find;
 pub use finder::finder_output;
 pub use fold::fold;
+pub use resolver::resolve;
 
 /// What an engine gives: the places, rising, counted from 0, and the number of looks at a pair P[j], T[i].
 #[derive(Default)]

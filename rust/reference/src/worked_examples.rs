@@ -1,6 +1,9 @@
-//! The worked examples of document 01, "The finder program" and "Refrains to try", and the tests that a book's fields meet.
+//! The worked examples of document 01, "The finder program" and "Refrains to try", and the tests that books, cues and lent
+//! memory meet.
 
-use crate::{cues, double_window, find, finder_output, fjs, fold, horspool, kmp, read_book, read_field, sunday, title, write_cue, Cue, Field};
+use crate::{
+    cues, double_window, find, finder_output, fjs, fold, horspool, kmp, read_book, read_field, resolve, sunday, title, write_cue, Cue, Field,
+};
 
 /// Total, comparisons and places by a method, with memory enough.
 fn found(method: u32, phrase: &[u8], text: &[u8]) -> (u32, u32, Vec<u32>) {
@@ -153,4 +156,48 @@ fn cues_to_be_written() {
     assert_eq!(buffer, [7; 1235]);
     assert_eq!(write_cue(&mut buffer, &letters[..1024], 65_535, &letters[..200]), (0, 1235));
     assert_eq!(cues(&buffer), Ok(vec![Cue { phrase: letters[..1024].to_vec(), ordinal: 65_535, title: 1035..1235 }]));
+}
+
+/// What the resolver gives, with the entries, in memory that is just long enough and holds 7 throughout before.
+fn resolved(book: &[u8], text: &[u8], cues: usize) -> ((u32, u32), Vec<u32>) {
+    let mut copy = vec![7; text.len()];
+    let (mut phrase, mut scratch, mut entries) = ([7; 1024], [7; 1281], vec![7; 3 * cues]);
+    let answer = resolve(book, text, &mut copy, &mut phrase, &mut scratch, &mut entries);
+    if [0, 12].contains(&answer.0) {
+        assert_eq!(copy, text.iter().map(|&letter| fold(letter)).collect::<Vec<u8>>());
+        assert_eq!((phrase, scratch), ([0; 1024], [0; 1281]));
+    } else {
+        assert_eq!((copy, phrase, scratch), (vec![7; text.len()], [7; 1024], [7; 1281]));
+    }
+    (answer, entries)
+}
+
+#[test]
+fn starred_resolving() {
+    assert_eq!(resolved(BOOK, b"la\nla", 1), ((0, 1), vec![3, 2, 1]));
+    assert_eq!(resolved(BOOK, b"la", 1), ((12, 0), vec![7, 7, 7]));
+}
+
+#[test]
+fn folded_and_overlapping_occurrences() {
+    let mut book = [0; 1000];
+    let (_, first) = write_cue(&mut book, b"\xc9L\xe9", 2, b"");
+    let (_, second) = write_cue(&mut book[first as usize..], b"\n", 2, b"the second line's end");
+    let book = &book[..(first + second) as usize];
+    assert_eq!(resolved(book, b" \n\xe9l\xc9L\xe9\n", 2), ((0, 2), vec![4, 2, 3, 7, 2, 6]));
+    assert_eq!(resolved(book, b" \n\xe9l\xc9L\xe9", 2), ((12, 1), vec![4, 2, 3, 7, 7, 7]));
+    assert_eq!(resolved(book, b" \n\xe9l\xc9L\xe9", 1), ((11, 0), vec![7, 7, 7]));
+    assert_eq!(resolved(&[], b"", 0), ((0, 0), vec![]));
+}
+
+#[test]
+fn resolving_limits() {
+    let text = [b'a'; 32_769];
+    let (mut copy, mut phrase, mut scratch) = ([7; 32_769], [7; 1024], [7; 1281]);
+    let mut refusal = |n, copied, m, tables| resolve(b"\x02", &text[..n], &mut copy[..copied], &mut phrase[..m], &mut scratch[..tables], &mut []);
+    assert_eq!(refusal(32_769, 0, 0, 0), (4, 0));
+    assert_eq!(refusal(32_768, 0, 0, 1280), (5, 0));
+    assert_eq!(refusal(32_768, 32_767, 1024, 1281), (6, 0));
+    assert_eq!(refusal(32_768, 32_768, 1023, 1281), (6, 0));
+    assert_eq!(refusal(32_768, 32_768, 1024, 1281), (7, 0));
 }

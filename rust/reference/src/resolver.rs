@@ -1,0 +1,59 @@
+//! Document 01, "Cue book, folding, lines": the resolver, and "What a refused call hands back", rows 4 to 12.
+
+use crate::{cues, fold};
+
+/// 0 and the number of cues, or the refusal's number with a cue's index; and what the lent memory holds afterwards.
+pub fn resolve(book: &[u8], text: &[u8], copy: &mut [u8], phrase: &mut [u8], scratch: &mut [u16], entries: &mut [u32]) -> (u32, u32) {
+    // The refusals 4 to 6, then those of the whole book, then 11; nothing is written.
+    if text.len() > 32_768 {
+        return (4, 0);
+    }
+    if scratch.len() < 1281 {
+        return (5, 0);
+    }
+    if copy.len() < text.len() || phrase.len() < 1024 {
+        return (6, 0);
+    }
+    let cues = match cues(book) {
+        Ok(cues) => cues,
+        Err(refused) => return refused,
+    };
+    if entries.len() < 3 * cues.len() {
+        return (11, 0);
+    }
+
+    // The copy's first n bytes are the folded text, and the phrase buffer and scratch are 0 throughout, whether a cue meets 12 or not.
+    let folded = fold_all(text);
+    copy[..text.len()].copy_from_slice(&folded);
+    phrase.fill(0);
+    scratch.fill(0);
+
+    for (index, cue) in cues.iter().enumerate() {
+        // The entries of earlier cues stay written; those of this cue and the later ones keep their values.
+        let Some(place) = occurrence(&fold_all(&cue.phrase), &folded, cue.ordinal) else {
+            return (12, index as u32);
+        };
+        let numbers = [place, line(text, place), column(text, place)];
+        entries[3 * index..3 * index + 3].copy_from_slice(&numbers.map(|number| number as u32));
+    }
+    (0, cues.len() as u32)
+}
+
+fn fold_all(letters: &[u8]) -> Vec<u8> {
+    letters.iter().map(|&letter| fold(letter)).collect()
+}
+
+/// The place of this occurrence; ordinal 1 is the first. Each place in turn is compared with the whole phrase.
+fn occurrence(phrase: &[u8], text: &[u8], ordinal: u32) -> Option<usize> {
+    (0..text.len()).filter(|&place| text[place..].starts_with(phrase)).nth(ordinal as usize - 1)
+}
+
+/// 1 plus the bytes 10 before the place.
+fn line(text: &[u8], place: usize) -> usize {
+    1 + text[..place].iter().filter(|&&letter| letter == 10).count()
+}
+
+/// 1 plus the bytes between the last byte 10 before the place, or the text's start, and the place.
+fn column(text: &[u8], place: usize) -> usize {
+    1 + text[..place].iter().rev().take_while(|&&letter| letter != 10).count()
+}
