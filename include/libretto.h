@@ -1,7 +1,8 @@
-/* libretto.h: exact matching over bytes, and cue books, with every result and every lent entry proved.
+/* libretto.h: exact matching over bytes, cue books, and the places of their cues, with every result and every lent entry proved.
  *
  * Every function is reentrant, keeps nothing between calls, allocates nothing, and may be called on any input: what the tables below do not
- * accept is refused, with nothing written. Memory is lent by the caller and is left exactly as stated. Link with liblibretto.a.
+ * accept is refused, with nothing written except where the resolver finds no occurrence (12). Memory is lent by the caller and is left exactly as
+ * stated. Link with liblibretto.a.
  * A pointer whose length is 0 is never read or written and may be any non-null pointer.
  */
 #ifndef LIBRETTO_H
@@ -14,7 +15,7 @@
 extern "C" {
 #endif
 
-/* The largest phrase and the largest text that a find takes, in bytes. */
+/* The largest phrase of a find or a cue, and the largest text of a find or the resolver, in bytes. */
 #define LIBRETTO_PHRASE_MAX 1024
 #define LIBRETTO_TEXT_MAX 32768
 
@@ -44,6 +45,12 @@ enum libretto_method {
 #define LIBRETTO_ORDINAL_MAX 65535
 #define LIBRETTO_CUE_MAX 1235
 
+/* The memory that the resolver needs besides a text copy as long as the text: scratch entries, bytes of the phrase buffer, and entries for each
+ * cue. */
+#define LIBRETTO_SCRATCH_RESOLVER ((size_t)1281)
+#define LIBRETTO_PHRASE_BUFFER ((size_t)1024)
+#define LIBRETTO_CUE_ENTRIES ((size_t)3)
+
 /* Why a call was refused. They are tested in this order, and the first that applies is returned; only 7 to 9 come as the book is read. */
 enum libretto_refusal {
     LIBRETTO_OK = 0,             /* not refused */
@@ -51,11 +58,14 @@ enum libretto_refusal {
     LIBRETTO_NO_PHRASE = 2,      /* the phrase has 0 bytes */
     LIBRETTO_LONG_PHRASE = 3,    /* the phrase has more than 1,024 bytes */
     LIBRETTO_LONG_TEXT = 4,      /* the text has more than 32,768 bytes */
-    LIBRETTO_SHORT_SCRATCH = 5,  /* the scratch has fewer entries than the method needs */
+    LIBRETTO_SHORT_SCRATCH = 5,  /* the scratch has fewer entries than the method or the resolver needs */
+    LIBRETTO_SHORT_BUFFER = 6,   /* the resolver's text copy is shorter than the text, or its phrase buffer has fewer than 1,024 bytes */
     LIBRETTO_CUT_FIELD = 7,      /* the book ends inside a field */
     LIBRETTO_WRONG_TAG = 8,      /* a field's tag is not the one due */
     LIBRETTO_BAD_FIELD = 9,      /* a field's length is not allowed, or an ordinal is 0 or, to be written, above 65,535 */
     LIBRETTO_LONG_BOOK = 10,     /* bytes remain after 999 cues */
+    LIBRETTO_SHORT_ENTRIES = 11, /* the cue entries are fewer than 3 for each cue */
+    LIBRETTO_NO_OCCURRENCE = 12, /* a cue's occurrence does not exist */
     LIBRETTO_LONG_CUE = 13       /* a cue to be written is longer than its buffer */
 };
 
@@ -106,6 +116,25 @@ libretto_part libretto_title(const uint8_t *book, size_t book_len, uint32_t cue)
  * title. */
 libretto_answer libretto_write_cue(uint8_t *buffer, size_t buffer_len, const uint8_t *phrase, size_t phrase_len, uint32_t ordinal,
                                    const uint8_t *title, size_t title_len);
+
+/* Finds the place of each cue of a book in the text: that of the occurrence which the cue's ordinal counts, from 1, of its folded phrase in the
+ * folded text, overlapping ones included.
+ *
+ * It gives 0 and the number of cues. Each cue's three entries are then its place, counted from 0, its line, which is 1 plus the bytes 10 before the
+ * place, and its column, which is 1 plus the bytes between the last byte 10 before the place, or the text's start, and the place. The copy's first
+ * text_len bytes are the folded text; phrase buffer and scratch are 0 throughout, however long they are; the copy's bytes and the entries past those
+ * written keep their values. What the lent memory held before plays no part.
+ *
+ * It is refused for a text of more than 32,768 bytes (4), a scratch of fewer than 1,281 entries (5), a copy shorter than the text or a phrase buffer
+ * of fewer than 1,024 bytes (6), and fewer than 3 entries for each cue (11), all with 0 as the number; and for a book that is refused as a whole,
+ * with the answer of libretto_read_book, which comes between 6 and 11. These leave all as before. If a cue's occurrence does not exist, the answer
+ * is 12 and the first such cue's index from 0: the entries of earlier cues are written, those of this cue and the later ones keep their values, and
+ * copy, phrase buffer and scratch are as after success.
+ *
+ * Copy, phrase buffer, scratch and entries must not overlap each other or the book or the text. */
+libretto_answer libretto_resolve(const uint8_t *book, size_t book_len, const uint8_t *text, size_t text_len, uint8_t *copy, size_t copy_len,
+                                 uint8_t *phrase, size_t phrase_len, uint16_t *scratch, size_t scratch_len, uint32_t *entries,
+                                 size_t entries_len);
 
 #ifdef __cplusplus
 }
