@@ -1,6 +1,6 @@
 //! The C interface of the library, and the only unsafe code of this crate: one declaration and one call for each function.
 
-use crate::{RawAnswer, RawFinding, RawPart};
+use crate::{RawAnswer, RawFinding, RawPart, ResolverMemory};
 
 extern "C" {
     fn libretto_find(
@@ -29,6 +29,21 @@ extern "C" {
         ordinal: u32,
         title: *const u8,
         title_len: usize,
+    ) -> RawAnswer;
+
+    fn libretto_resolve(
+        book: *const u8,
+        book_len: usize,
+        text: *const u8,
+        text_len: usize,
+        copy: *mut u8,
+        copy_len: usize,
+        phrase: *mut u8,
+        phrase_len: usize,
+        scratch: *mut u16,
+        scratch_len: usize,
+        entries: *mut u32,
+        entries_len: usize,
     ) -> RawAnswer;
 }
 
@@ -81,4 +96,28 @@ pub(crate) fn write_cue(buffer: &mut [u8], phrase: &[u8], ordinal: u32, title: &
     // from both, and all three borrows outlive the call, which keeps no pointer. The library accepts any ordinal and any lengths. `RawAnswer` has
     // the layout of the C structure (`repr(C)`, two `u32`).
     unsafe { libretto_write_cue(buffer.as_mut_ptr(), buffer.len(), phrase.as_ptr(), phrase.len(), ordinal, title.as_ptr(), title.len()) }
+}
+
+/// Calls `libretto_resolve` on slices.
+pub(crate) fn resolve(book: &[u8], text: &[u8], memory: &mut ResolverMemory<'_>) -> RawAnswer {
+    // SAFETY: each pointer comes from a slice and stands beside that slice's own length, so it is aligned, not null (also where the slice is
+    // empty), and valid for as many entries: for reading with book and text, for reading and writing with the four slices of the memory. The
+    // exclusive borrows keep those four apart from each other and from book and text, and all six borrows outlive the call, which keeps no pointer.
+    // The library accepts any bytes and any lengths. `RawAnswer` has the layout of the C structure (`repr(C)`, two `u32`).
+    unsafe {
+        libretto_resolve(
+            book.as_ptr(),
+            book.len(),
+            text.as_ptr(),
+            text.len(),
+            memory.copy.as_mut_ptr(),
+            memory.copy.len(),
+            memory.phrase.as_mut_ptr(),
+            memory.phrase.len(),
+            memory.scratch.as_mut_ptr(),
+            memory.scratch.len(),
+            memory.entries.as_mut_ptr(),
+            memory.entries.len(),
+        )
+    }
 }

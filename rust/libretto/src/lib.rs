@@ -1,10 +1,11 @@
-//! Exact matching over bytes by six engines, and cue books: a safe Rust interface to the library `libretto`.
+//! Exact matching over bytes by six engines, cue books, and the places of their cues: a safe Rust interface to the library `libretto`.
 //!
 //! All engines give the same list of places; each gives the count of its own letter comparisons. The library allocates nothing: the caller lends a
 //! scratch of 16-bit numbers for the tables and a list of 32-bit numbers for the places. [`find_all`] lends both itself.
 //!
 //! A cue book is 0 to 999 cues, each with a phrase, an ordinal and a title: [`write_cue`] writes one, [`read_book`] tests a whole book, and [`title`]
-//! shows a title where it stands.
+//! shows a title where it stands. [`resolve`] finds the place, line and column of each cue in a text, in lent memory too; [`resolve_all`] lends it
+//! itself.
 //!
 //! ```
 //! use libretto::{find, find_all, Finding, Method, Refusal};
@@ -32,16 +33,19 @@ mod cue_book;
 mod ffi;
 mod find;
 mod refusal;
+mod resolver;
 
 pub use cue_book::{read_book, read_book_raw, title, title_raw, write_cue, write_cue_raw};
 pub use cue_book::{BookError, RawAnswer, RawPart, CUES_MAX, CUE_MAX, ORDINAL_MAX, TITLE_MAX};
 pub use find::{find, find_all, find_raw, Finding, Method, RawFinding};
 pub use refusal::Refusal;
+pub use resolver::{resolve, resolve_all, resolve_raw};
+pub use resolver::{CuePlace, ResolveError, ResolverMemory, CUE_ENTRIES, PHRASE_BUFFER, RESOLVER_SCRATCH};
 
 /// The longest phrase of a find and of a cue, in bytes.
 pub const PHRASE_MAX: usize = 1024;
 
-/// The longest text that a find takes, in bytes.
+/// The longest text of a find and of the resolver, in bytes.
 pub const TEXT_MAX: usize = 32_768;
 
 /// What a letter of ISO 8859-1 folds to: the small letter of a capital one, and every other byte itself.

@@ -16,8 +16,10 @@ pub enum Refusal {
     LongPhrase = 3,
     /// The text has more than 32,768 bytes.
     LongText = 4,
-    /// The scratch has fewer entries than the method needs.
+    /// The scratch has fewer entries than the method or the resolver needs.
     ShortScratch = 5,
+    /// The resolver's text copy is shorter than the text, or its phrase buffer has fewer than 1,024 bytes.
+    ShortBuffer = 6,
     /// The book ends inside a field.
     CutField = 7,
     /// A field's tag is not the one due.
@@ -26,6 +28,10 @@ pub enum Refusal {
     BadField = 9,
     /// Bytes remain after 999 cues.
     LongBook = 10,
+    /// The cue entries are fewer than 3 for each cue.
+    ShortEntries = 11,
+    /// A cue's occurrence does not exist.
+    NoOccurrence = 12,
     /// A cue to be written is longer than its buffer.
     LongCue = 13,
 }
@@ -50,10 +56,13 @@ impl Refusal {
             3 => Some(Refusal::LongPhrase),
             4 => Some(Refusal::LongText),
             5 => Some(Refusal::ShortScratch),
+            6 => Some(Refusal::ShortBuffer),
             7 => Some(Refusal::CutField),
             8 => Some(Refusal::WrongTag),
             9 => Some(Refusal::BadField),
             10 => Some(Refusal::LongBook),
+            11 => Some(Refusal::ShortEntries),
+            12 => Some(Refusal::NoOccurrence),
             13 => Some(Refusal::LongCue),
             _ => None,
         }
@@ -75,11 +84,14 @@ impl fmt::Display for Refusal {
             Refusal::NoPhrase => "the phrase has 0 bytes",
             Refusal::LongPhrase => "the phrase has more than 1,024 bytes",
             Refusal::LongText => "the text has more than 32,768 bytes",
-            Refusal::ShortScratch => "the scratch has fewer entries than the method needs",
+            Refusal::ShortScratch => "the scratch has fewer entries than the method or the resolver needs",
+            Refusal::ShortBuffer => "the text copy is shorter than the text, or the phrase buffer has fewer than 1,024 bytes",
             Refusal::CutField => "the book ends inside a field",
             Refusal::WrongTag => "a field's tag is not the one due",
             Refusal::BadField => "a field's length is not allowed, or the ordinal is not from 1 to 65,535",
             Refusal::LongBook => "bytes remain after 999 cues",
+            Refusal::ShortEntries => "the cue entries are fewer than 3 for each cue",
+            Refusal::NoOccurrence => "the cue's occurrence does not exist",
             Refusal::LongCue => "the cue to be written is longer than its buffer",
         })
     }
@@ -93,12 +105,12 @@ mod tests {
 
     #[test]
     fn refusals_have_their_numbers_and_sentences() {
-        for number in [1, 2, 3, 4, 5, 7, 8, 9, 10, 13] {
+        for number in 1..=13 {
             let refusal = Refusal::from_number(number).unwrap();
             assert_eq!(refusal.number(), number);
             assert!(!refusal.to_string().is_empty());
         }
-        for number in [0, 6, 11, 12, 14, u32::MAX] {
+        for number in [0, 14, u32::MAX] {
             assert_eq!(Refusal::from_number(number), None);
         }
     }

@@ -1,0 +1,170 @@
+//! The resolver: from the cues of a book to their places in a text.
+
+use crate::{ffi, read_book, RawAnswer, Refusal, TEXT_MAX};
+use std::error::Error;
+use std::fmt;
+
+/// The entries that the resolver writes for each cue: place, line and column.
+pub const CUE_ENTRIES: usize = 3;
+
+/// The scratch entries that the resolver needs.
+pub const RESOLVER_SCRATCH: usize = 1281;
+
+/// The bytes that the resolver's phrase buffer needs.
+pub const PHRASE_BUFFER: usize = 1024;
+
+/// Where a cue stands in the text.
+#[derive(Clone, Copy, Debug, PartialEq, Eq, Hash)]
+pub struct CuePlace {
+    /// The place of the occurrence, counted from 0.
+    pub place: u32,
+    /// 1 plus the bytes 10 before the place.
+    pub line: u32,
+    /// 1 plus the bytes between the last byte 10 before the place, or the text's start, and the place.
+    pub column: u32,
+}
+
+/// Memory lent to the resolver. What it held before plays no part.
+#[derive(Debug)]
+pub struct ResolverMemory<'a> {
+    /// At least as long as the text. Afterwards its front is the folded text, and its bytes past that keep their values.
+    pub copy: &'a mut [u8],
+    /// At least [`PHRASE_BUFFER`] bytes. Afterwards it is 0 throughout.
+    pub phrase: &'a mut [u8],
+    /// At least [`RESOLVER_SCRATCH`] entries. Afterwards it is 0 throughout.
+    pub scratch: &'a mut [u16],
+    /// At least [`CUE_ENTRIES`] for each cue, which are then the cue's place, line and column. Entries past those keep their values.
+    pub entries: &'a mut [u32],
+}
+
+/// Why the resolver refused a call, and at which cue.
+#[derive(Clone, Copy, Debug, PartialEq, Eq, Hash)]
+pub struct ResolveError {
+    /// The refusal.
+    pub refusal: Refusal,
+    /// The cue's index, from 0; none where the text or the lent memory was refused. With [`Refusal::LongBook`] it is 999.
+    pub cue: Option<usize>,
+}
+
+impl fmt::Display for ResolveError {
+    fn fmt(&self, f: &mut fmt::Formatter<'_>) -> fmt::Result {
+        match self.cue {
+            Some(cue) => write!(f, "cue {cue}: {}", self.refusal),
+            None => self.refusal.fmt(f),
+        }
+    }
+}
+
+impl Error for ResolveError {}
+
+/// Finds the place of each cue of a book in the text and gives the number of cues. The place is that of the occurrence which the cue's ordinal counts,
+/// from 1, of its folded phrase in the folded text, overlapping ones included.
+///
+/// A refused call leaves the lent memory as it was, except with [`Refusal::NoOccurrence`]: then the entries of the cues before the refused one are
+/// written, its own and the later ones keep their values, and the rest is as after success.
+///
+/// ```
+/// use libretto::{resolve, Refusal, ResolveError, ResolverMemory, PHRASE_BUFFER, RESOLVER_SCRATCH};
+///
+/// let book = b"\x01\x00\x02la\x02\x00\x02\x00\x02\x03\x00\x02No";
+/// let (mut copy, mut phrase, mut scratch, mut entries) = ([0; 5], [0; PHRASE_BUFFER], [0; RESOLVER_SCRATCH], [0; 3]);
+/// let mut memory = ResolverMemory { copy: &mut copy, phrase: &mut phrase, scratch: &mut scratch, entries: &mut entries };
+///
+/// assert_eq!(resolve(book, b"LA\nla", &mut memory), Ok(1));
+/// assert_eq!((&*memory.entries, &*memory.copy), (&[3, 2, 1][..], &b"la\nla"[..]));
+///
+/// let missing = ResolveError { refusal: Refusal::NoOccurrence, cue: Some(0) };
+/// assert_eq!(resolve(book, b"la", &mut memory), Err(missing));
+/// ```
+pub fn resolve(book: &[u8], text: &[u8], memory: &mut ResolverMemory<'_>) -> Result<usize, ResolveError> {
+    let raw = resolve_raw(book, text, memory);
+    let number = raw.number as usize;
+    Refusal::check(raw.refusal).map(|()| number).map_err(|refusal| {
+        let of_no_cue = [Refusal::LongText, Refusal::ShortScratch, Refusal::ShortBuffer, Refusal::ShortEntries].contains(&refusal);
+        ResolveError { refusal, cue: (!of_no_cue).then_some(number) }
+    })
+}
+
+/// [`resolve`] with the refusal's number in place of a [`Refusal`]. The answer's number is the number of cues, or the index of the cue that was
+/// refused, or 0 where no cue was.
+///
+/// ```
+/// use libretto::{resolve_raw, ResolverMemory};
+/// let raw = resolve_raw(b"", b"la", &mut ResolverMemory { copy: &mut [], phrase: &mut [], scratch: &mut [], entries: &mut [] });
+/// assert_eq!((raw.refusal, raw.number), (5, 0));
+/// ```
+pub fn resolve_raw(book: &[u8], text: &[u8], memory: &mut ResolverMemory<'_>) -> RawAnswer {
+    ffi::resolve(book, text, memory)
+}
+
+/// The places of all cues of a book in the text. The memory that the resolver needs is allocated here.
+///
+/// ```
+/// use libretto::{resolve_all, CuePlace};
+///
+/// let book = b"\x01\x00\x02la\x02\x00\x02\x00\x02\x03\x00\x02No";
+/// assert_eq!(resolve_all(book, b"la,\nLa")?, [CuePlace { place: 4, line: 2, column: 1 }]);
+/// # Ok::<(), libretto::ResolveError>(())
+/// ```
+pub fn resolve_all(book: &[u8], text: &[u8]) -> Result<Vec<CuePlace>, ResolveError> {
+    // A longer text is refused, and so is a book that has no number of cues, so neither needs memory.
+    let mut copy = vec![0; text.len().min(TEXT_MAX)];
+    let mut entries = vec![0; CUE_ENTRIES * read_book(book).unwrap_or(0)];
+    let mut memory = ResolverMemory { copy: &mut copy, phrase: &mut [0; PHRASE_BUFFER], scratch: &mut [0; RESOLVER_SCRATCH], entries: &mut entries };
+    resolve(book, text, &mut memory)?;
+    Ok(entries.chunks_exact(CUE_ENTRIES).map(|entry| CuePlace { place: entry[0], line: entry[1], column: entry[2] }).collect())
+}
+
+#[cfg(test)]
+mod tests {
+    use super::*;
+    use crate::write_cue;
+
+    /// A book of these phrases and ordinals.
+    fn book(cues: &[(&[u8], u32)]) -> Vec<u8> {
+        let mut book = vec![0; 100 * cues.len()];
+        let mut end = 0;
+        for (phrase, ordinal) in cues {
+            end += write_cue(&mut book[end..], phrase, *ordinal, b"").unwrap();
+        }
+        book.truncate(end);
+        book
+    }
+
+    #[test]
+    fn accents_and_overlaps() {
+        let book = book(&[(b"\xc9T\xe9", 2), (b"\n", 1), (b"x", 1)]);
+        let place = |place, line, column| CuePlace { place, line, column };
+        assert_eq!(resolve_all(&book, b"\n\xe9t\xc9T\xe9 X"), Ok(vec![place(3, 2, 3), place(0, 1, 1), place(7, 2, 7)]));
+        assert_eq!(resolve_all(&[], b"la"), Ok(vec![]));
+    }
+
+    #[test]
+    fn refusals_name_a_cue_where_there_is_one() {
+        let book = book(&[(b"la", 1), (b"la", 3)]);
+        let refused = |book: &[u8], text: &[u8]| resolve_all(book, text).unwrap_err();
+        let missing = refused(&book, b"la la");
+        assert_eq!(missing, ResolveError { refusal: Refusal::NoOccurrence, cue: Some(1) });
+        assert_eq!(missing.to_string(), "cue 1: the cue's occurrence does not exist");
+        let cut = refused(&book[..book.len() - 1], b"la la la");
+        assert_eq!(cut, ResolveError { refusal: Refusal::CutField, cue: Some(1) });
+        let long = refused(&book, &[b'a'; TEXT_MAX + 1]);
+        assert_eq!(long, ResolveError { refusal: Refusal::LongText, cue: None });
+        assert_eq!(long.to_string(), "the text has more than 32,768 bytes");
+    }
+
+    #[test]
+    fn short_memory_names_no_cue() {
+        let book = book(&[(b"la", 1)]);
+        let refused = |copy, phrase, scratch, entries| {
+            let (mut copy, mut phrase, mut scratch, mut entries) = (vec![7; copy], vec![7; phrase], vec![7; scratch], vec![7; entries]);
+            let mut memory = ResolverMemory { copy: &mut copy, phrase: &mut phrase, scratch: &mut scratch, entries: &mut entries };
+            resolve(&book, b"la", &mut memory).map_err(|refused| (refused.refusal, refused.cue))
+        };
+        assert_eq!(refused(2, PHRASE_BUFFER, RESOLVER_SCRATCH, CUE_ENTRIES), Ok(1));
+        assert_eq!(refused(2, PHRASE_BUFFER, RESOLVER_SCRATCH - 1, CUE_ENTRIES), Err((Refusal::ShortScratch, None)));
+        assert_eq!(refused(1, PHRASE_BUFFER, RESOLVER_SCRATCH, CUE_ENTRIES), Err((Refusal::ShortBuffer, None)));
+        assert_eq!(refused(2, PHRASE_BUFFER - 1, RESOLVER_SCRATCH, CUE_ENTRIES), Err((Refusal::ShortBuffer, None)));
+        assert_eq!(refused(2, PHRASE_BUFFER, RESOLVER_SCRATCH, CUE_ENTRIES - 1), Err((Refusal::ShortEntries, None)));
+    }
+}
