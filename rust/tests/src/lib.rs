@@ -9,10 +9,13 @@ pub mod books;
 mod cue_book;
 mod find;
 mod lent;
+mod resolver;
+pub mod verses;
 pub mod words;
 
 pub use cue_book::{compare_book, compare_write};
 pub use find::{compare, needed};
+pub use resolver::{compare_resolve, Lengths};
 pub use words::Random;
 
 /// The calls compared by all tests of this program.

@@ -1,0 +1,128 @@
+//! The resolver, by the library and by the reference.
+
+use crate::books::MORE;
+use crate::lent::{dirt, Lent, Shown};
+use crate::{Faults, Random};
+use libretto::{resolve_raw, RawAnswer, ResolverMemory};
+use std::cell::RefCell;
+
+/// How much of each kind of memory is lent.
+#[derive(Clone, Copy, Debug)]
+pub struct Lengths {
+    pub copy: usize,
+    pub phrase: usize,
+    pub scratch: usize,
+    pub entries: usize,
+}
+
+impl Lengths {
+    /// Just enough for a text of n bytes and so many cues.
+    pub fn enough(n: usize, cues: usize) -> Lengths {
+        Lengths { copy: n, phrase: 1024, scratch: 1281, entries: 3 * cues }
+    }
+
+    /// Each of these lengths, or somewhat more.
+    pub fn or_more(self, random: &mut Random) -> Lengths {
+        let mut more = |length| length + [0, 1, random.between(2, 50)][random.below(3)];
+        Lengths { copy: more(self.copy), phrase: more(self.phrase), scratch: more(self.scratch), entries: more(self.entries) }
+    }
+}
+
+/// Memory for one call of the library and one of the reference, kept between calls.
+#[derive(Default)]
+struct Memory {
+    book: Shown,
+    text: Shown,
+    copy: Lent<u8>,
+    phrase: Lent<u8>,
+    scratch: Lent<u16>,
+    entries: Lent<u32>,
+}
+
+thread_local!(static MEMORY: RefCell<Memory> = RefCell::default());
+
+/// What the lent memory holds before a call.
+struct Held {
+    copy: Vec<u8>,
+    phrase: &'static [u8],
+    scratch: &'static [u16],
+    entries: &'static [u32],
+}
+
+impl Held {
+    /// Dirt by the seed. Past n the copy goes on with the folded text from its front, so that a search past n would find occurrences.
+    fn new(text: &[u8], lengths: Lengths, seed: u64) -> Held {
+        let mut copy = dirt(lengths.copy, seed).to_vec();
+        let folded = text.iter().map(|&letter| reference::fold(letter));
+        for (byte, letter) in copy.iter_mut().skip(text.len()).zip(folded.cycle()) {
+            *byte = letter;
+        }
+        Held { copy, phrase: dirt(lengths.phrase, seed), scratch: dirt(lengths.scratch, seed), entries: dirt(lengths.entries, seed) }
+    }
+}
+
+impl Memory {
+    fn prepare(&mut self, book: &[u8], text: &[u8], held: &Held) {
+        self.book.show(book, MORE);
+        self.text.show(text, text);
+        self.copy.soil(&held.copy);
+        self.phrase.soil(held.phrase);
+        self.scratch.soil(held.scratch);
+        self.entries.soil(held.entries);
+    }
+
+    /// Calls the library and the reference.
+    fn call(&mut self, book: &[u8], text: &[u8]) -> (RawAnswer, (u32, u32)) {
+        let (copy, reference_copy) = self.copy.lend();
+        let (phrase, reference_phrase) = self.phrase.lend();
+        let (scratch, reference_scratch) = self.scratch.lend();
+        let (entries, reference_entries) = self.entries.lend();
+        let raw = resolve_raw(self.book.bytes(), self.text.bytes(), &mut ResolverMemory { copy, phrase, scratch, entries });
+        (raw, reference::resolve(book, text, reference_copy, reference_phrase, reference_scratch, reference_entries))
+    }
+
+    /// What is wrong with the memory, told without the reference.
+    fn kept_and_cleared(&self, raw: RawAnswer, held: &Held, faults: &mut Faults) {
+        if raw.refusal == 0 || raw.refusal == 12 {
+            let cleared = self.phrase.left().iter().all(|&byte| byte == 0) && self.scratch.left().iter().all(|&entry| entry == 0);
+            faults.when(!cleared, "phrase buffer or scratch is not 0 throughout");
+            let rest = 3 * raw.number as usize..;
+            faults.when(self.entries.left().get(rest.clone()) != held.entries.get(rest), "an entry that is not due was written");
+        } else {
+            let work = self.copy.left() == held.copy && self.phrase.left() == held.phrase && self.scratch.left() == held.scratch;
+            faults.when(!work || self.entries.left() != held.entries, "a refused call wrote something");
+        }
+    }
+}
+
+/// Calls the library and the reference with equal arguments and compares the answers and all of copy, phrase buffer, scratch and entries with guards on
+/// both sides. All four are dirty before the call, by the seed. In memory the text is followed by itself and the book by one more cue. Any difference
+/// ends the test with the whole case.
+pub fn compare_resolve(book: &[u8], text: &[u8], lengths: Lengths, seed: u64) -> RawAnswer {
+    let held = Held::new(text, lengths, seed);
+    MEMORY.with_borrow_mut(|memory| {
+        memory.prepare(book, text, &held);
+        let (raw, reference) = memory.call(book, text);
+        let library = (raw.refusal, raw.number);
+
+        let mut faults = Faults::default();
+        faults.when(library != reference, "refusal or number differ");
+        faults.extend(memory.copy.difference("copy"));
+        faults.extend(memory.phrase.difference("phrase buffer"));
+        faults.extend(memory.scratch.difference("scratch"));
+        faults.extend(memory.entries.difference("cue"));
+        faults.when(!memory.book.intact(book, MORE) || !memory.text.intact(text, text), "book or text was written");
+        memory.kept_and_cleared(raw, &held, &mut faults);
+        faults.judge(|| {
+            format!(
+                "book of {} bytes, text of {} bytes, {lengths:?}, seed {seed}\nbook: \"{}\"\ntext: \"{}\"\n\
+                 (refusal, number): library {library:?}, reference {reference:?}",
+                book.len(),
+                text.len(),
+                book.escape_ascii(),
+                text.escape_ascii()
+            )
+        });
+        raw
+    })
+}

@@ -1,0 +1,130 @@
+//! The refusals of the resolver, their order, and what a call leaves that was refused. That all but 12 leave everything as before is tested in every
+//! compared call, without the reference.
+
+use libretto::{resolve, RawAnswer, Refusal, ResolveError, ResolverMemory};
+use libretto_tests::books::{book, Cue, MORE};
+use libretto_tests::{compare_resolve, report, Lengths, Random};
+
+/// A book with the answer of its reading, and the first cue that is missing in a text of letters a.
+struct Case {
+    book: Vec<u8>,
+    read: (u32, u32),
+    missing: Option<u32>,
+}
+
+/// Books of every kind. In those that are refused the first cue is missing too, and 12 must not be answered instead.
+fn cases() -> Vec<Case> {
+    let (found, missing) = (Cue::new(b"A", 1, b"No"), Cue::new(b"b", 1, b""));
+    let case = |book, read, missing| Case { book, read, missing };
+    let pair = book(&[missing.clone(), found.clone()]);
+    let second = missing.bytes().len();
+    let changed = |place: usize, byte| {
+        let mut book = pair.clone();
+        book[place] = byte;
+        book
+    };
+    vec![
+        case(vec![], (0, 0), None),
+        case(book(&[found.clone(), found.clone()]), (0, 2), None),
+        case(pair.clone(), (0, 2), Some(0)),
+        case(book(&[found.clone(), missing.clone()]), (0, 2), Some(1)),
+        case(pair[..pair.len() - 1].to_vec(), (7, 1), Some(0)),
+        case(changed(second, 2), (8, 1), Some(0)),
+        case(changed(second + 1, 5), (9, 1), Some(0)),
+        case(changed(0, 3), (8, 0), Some(0)),
+        case([missing.bytes(), MORE.repeat(998), vec![1]].concat(), (10, 999), Some(0)),
+    ]
+}
+
+/// The answer by the words of document 01.
+fn due(case: &Case, n: usize, lengths: Lengths) -> (u32, u32) {
+    if n > 32_768 {
+        (Refusal::LongText.number(), 0)
+    } else if lengths.scratch < 1281 {
+        (Refusal::ShortScratch.number(), 0)
+    } else if lengths.copy < n || lengths.phrase < 1024 {
+        (Refusal::ShortBuffer.number(), 0)
+    } else if case.read.0 != 0 {
+        case.read
+    } else if lengths.entries < 3 * case.read.1 as usize {
+        (Refusal::ShortEntries.number(), 0)
+    } else if n == 0 && case.read.1 > 0 {
+        (Refusal::NoOccurrence.number(), 0)
+    } else {
+        case.missing.map_or(case.read, |cue| (Refusal::NoOccurrence.number(), cue))
+    }
+}
+
+#[test]
+fn every_limit_with_every_other() {
+    let mut random = Random::new(61);
+    let mut met = [0; 14];
+    let text = vec![b'a'; 40_000];
+    for case in cases() {
+        for n in [0usize, 1, 7, 32_767, 32_768, 32_769, 40_000] {
+            for copy in [0, n.saturating_sub(1), n, n + 1] {
+                for phrase in [0, 1023, 1024, 1025] {
+                    for scratch in [0, 1280, 1281, 1282] {
+                        for entries in [0, 3, 5, 6, 7] {
+                            let lengths = Lengths { copy, phrase, scratch, entries };
+                            let RawAnswer { refusal, number } = compare_resolve(&case.book, &text[..n], lengths, random.next());
+                            assert_eq!((refusal, number), due(&case, n, lengths), "{:?} in {n} letters, {lengths:?}", case.read);
+                            met[refusal as usize] += 1;
+                        }
+                    }
+                }
+            }
+        }
+    }
+    assert!([0, 4, 5, 6, 7, 8, 9, 10, 11, 12].iter().all(|&refusal| met[refusal] > 30), "the calls met too little: {met:?}");
+    report("every_limit_with_every_other", 9 * 7 * 4 * 4 * 4 * 5);
+}
+
+#[test]
+fn every_number_of_entries() {
+    let mut random = Random::new(62);
+    for count in [0, 1, 2, 7, 400, 999] {
+        let book = MORE.repeat(count);
+        for entries in (0..3 * count + 3).rev().take(20).chain([0, count, 2 * count]) {
+            let lengths = Lengths { entries, ..Lengths::enough(4, count) };
+            let answer = compare_resolve(&book, b"lala", lengths, random.next());
+            let expected = if entries < 3 * count { (11, 0) } else { (0, count as u32) };
+            assert_eq!((answer.refusal, answer.number), expected, "{count} cues, {entries} entries");
+        }
+    }
+    report("every_number_of_entries", 6 + 9 + 12 + 3 * 23);
+}
+
+/// A missing occurrence at the first, a middle and the last cue: what is written and what is kept, without the reference.
+#[test]
+fn missing_occurrences() {
+    let text = b"Tra\nLa la\nLALA";
+    let cues = [(&b"LA"[..], 4, [12, 3, 3]), (b"\nla", 1, [3, 1, 4]), (b"tra", 1, [0, 1, 1]), (b"a l", 1, [5, 2, 2]), (b"la", 3, [10, 3, 1])];
+    for missing in 0..cues.len() {
+        for rest in missing + 1..=cues.len() {
+            let mut changed: Vec<Cue> = cues[..rest].iter().map(|&(phrase, ordinal, _)| Cue::new(phrase, ordinal, b"")).collect();
+            changed[missing].ordinal = 5;
+            let (mut copy, mut phrase, mut scratch, mut entries) = ([7; 20], [7; 1030], [7; 1300], [7; 17]);
+            let mut memory = ResolverMemory { copy: &mut copy, phrase: &mut phrase, scratch: &mut scratch, entries: &mut entries };
+            let answer = resolve(&book(&changed), text, &mut memory);
+            assert_eq!(answer, Err(ResolveError { refusal: Refusal::NoOccurrence, cue: Some(missing) }));
+            let written: Vec<u32> = cues[..missing].iter().flat_map(|cue| cue.2).collect();
+            assert_eq!(entries[..3 * missing], written, "the earlier cues' entries, {missing} of {rest}");
+            assert_eq!(entries[3 * missing..], [7; 17][3 * missing..], "the entries from the missing cue on, {missing} of {rest}");
+            assert_eq!(copy, *b"tra\nla la\nlala\x07\x07\x07\x07\x07\x07");
+            assert_eq!((phrase, scratch), ([0; 1030], [0; 1300]));
+        }
+    }
+}
+
+/// An empty vector's slice points to no memory at all.
+#[test]
+fn slices_without_memory() {
+    let (mut copy, mut phrase, mut scratch, mut entries) = (vec![], vec![7; 1024], vec![7; 1281], vec![]);
+    let mut memory = ResolverMemory { copy: &mut copy, phrase: &mut phrase, scratch: &mut scratch, entries: &mut entries };
+    assert_eq!(resolve(&Vec::new(), &Vec::new(), &mut memory), Ok(0));
+    assert_eq!((&*memory.phrase, &*memory.scratch), (&[0; 1024][..], &[0; 1281][..]));
+    assert_eq!(resolve(MORE, &Vec::new(), &mut memory), Err(ResolveError { refusal: Refusal::ShortEntries, cue: None }));
+    memory.scratch = &mut [];
+    assert_eq!(resolve(&Vec::new(), &Vec::new(), &mut memory), Err(ResolveError { refusal: Refusal::ShortScratch, cue: None }));
+}
