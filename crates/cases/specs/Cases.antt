@@ -2,6 +2,7 @@
 use Prim.Native.Nat.{ℕ, suc, _-_}
 use mathlib.Core.Bool.{Bool, true, false, cond, _&&_}
 use mathlib.Core.List.{List, [], _∷_}
+use lib.ListN.{length, replicate}
 use lib.Dec.{eqb}
 use Rattle.matching.specs.Occurrences.{same, occurrences}
 use Rattle.matching.specs.Machine.{run, runFrom, positionsIn}
@@ -13,6 +14,7 @@ use Rattle.fjs.specs.Fjs.{window, fjs}
 use Rattle.fold.specs.Fold.{folded}
 use Rattle.cue_book.specs.Format.{Cue, cueWith, bookBytes}
 use Rattle.cue_book.specs.Reading.{Reading, refused, cues, readBook}
+use Rattle.resolver.specs.Resolver.{Outcome, outcome}
 
 -- a row: what is asked, and the answer that document 01 gives
 pub data Case : Type 0 where
@@ -27,6 +29,8 @@ pub data Case : Type 0 where
   fold : ℕ → ℕ → Case
   -- a book's bytes, and the cues that it reads as
   book : List ℕ → List Cue → Case
+  -- a book and a text, the two numbers that resolving gives back, and the entries written; the memory lent is just enough for one cue
+  resolve : List ℕ → List ℕ → ℕ → ℕ → List ℕ → Case
 
 -- the entry given to a letter, or the entry of the others
 unfoldable pub given : List ℕ → List ℕ → ℕ → ℕ → ℕ
@@ -53,15 +57,21 @@ unfolding sameCues
 readsAs (refused number index) expected = false
 readsAs (cues cs) expected = sameCues cs expected
 
+-- an outcome with these two numbers and these entries
+unfoldable pub comesTo : Outcome → ℕ → ℕ → List ℕ → Bool
+unfolding same
+comesTo o refusal number entries = eqb (o .resolution .refusal) refusal && eqb (o .resolution .number) number && same (o .resolution .written) entries
+
 -- a row holds: the definitions give its answer
 unfoldable pub holds : Case → Bool
-unfolding same tabulate lastIn kmpEntry given movesFrom occurrences runFrom positionsIn compared window folded readsAs readBook bookBytes
+unfolding same tabulate lastIn kmpEntry given movesFrom occurrences runFrom positionsIn compared window folded readsAs readBook bookBytes comesTo outcome
 holds (kmp P entries moves) = same (kmpTable P) entries && same (movesFrom 0 (kmpTable P)) moves
 holds (sunday P letters entries others) = same (sundayTable P) (tabulate 256 (given letters entries others))
 holds (horspool P letters entries others) = same (horspoolTable P) (tabulate 256 (given letters entries others))
 holds (find e P T positions comparisons) = same (occurrences P T) positions && same (positionsIn (run (e .steps) P T)) positions && eqb (compared e P T) comparisons
 holds (fold letter small) = eqb (folded letter) small
 holds (book bytes cs) = readsAs (readBook bytes) cs && same (bookBytes cs) bytes
+holds (resolve bytes T refusal number entries) = comesTo (outcome bytes T (replicate (length T) 0) (replicate 1024 0) (replicate 1281 0) (replicate 3 0)) refusal number entries
 
 -- every row holds
 unfoldable pub allHold : List Case → Bool
@@ -91,6 +101,10 @@ o = 111
 abbrev abaaca : List ℕ
 abaaca = a ∷ b ∷ a ∷ a ∷ c ∷ a ∷ []
 
+-- the book la, 2, No
+abbrev laNo : List ℕ
+laNo = 0x01 ∷ 0x00 ∷ 0x02 ∷ 0x6C ∷ 0x61 ∷ 0x02 ∷ 0x00 ∷ 0x02 ∷ 0x00 ∷ 0x02 ∷ 0x03 ∷ 0x00 ∷ 0x02 ∷ 0x4E ∷ 0x6F ∷ []
+
 -- the table
 unfoldable pub cases : List Case
 cases =
@@ -108,7 +122,8 @@ cases =
     ∷ fold 0xD7 0xD7
     ∷ fold 0xDF 0xDF
     ∷ fold 0xFF 0xFF
-    ∷ book
-    (0x01 ∷ 0x00 ∷ 0x02 ∷ 0x6C ∷ 0x61 ∷ 0x02 ∷ 0x00 ∷ 0x02 ∷ 0x00 ∷ 0x02 ∷ 0x03 ∷ 0x00 ∷ 0x02 ∷ 0x4E ∷ 0x6F ∷ [])
+    ∷ book laNo
     (cueWith (l ∷ a ∷ []) 2 (N ∷ o ∷ []) ∷ [])
+    ∷ resolve laNo (l ∷ a ∷ 10 ∷ l ∷ a ∷ []) 0 1 (3 ∷ 2 ∷ 1 ∷ [])
+    ∷ resolve laNo (l ∷ a ∷ []) 12 0 []
     ∷ []

@@ -2,11 +2,11 @@
 use mathlib.Core.Path.{_≡_, refl, sym, ap, subst, _∙_}
 use Prim.Native.Nat.{ℕ, _*_, _≤_, _<_}
 use native.Mathlib.Omega.{arith}
-use mathlib.Core.Bool.{Bool, true, cond}
+use mathlib.Core.Bool.{Bool, true, false, cond, false≢true}
 use mathlib.Core.List.{List, _++_, map}
 use lib.ListN.{length, drop, replicate}
 use lib.Dec.{eqb, ltb}
-use borrow.Author.Tests.{eq-eqb, ne-eqb, lt-ltb, le-ltb, ltb-true, ltb-false}
+use borrow.Author.Tests.{eq-eqb, ne-eqb, eqb-true, eqb-false, lt-ltb, le-ltb, ltb-true, ltb-false}
 use Rattle.matching.specs.Received.{received}
 use Rattle.matching.proofs.Tests.{by-test}
 use Rattle.matching.proofs.Received.{received-none}
@@ -17,7 +17,7 @@ use Rattle.cue_book.specs.Format.{Cue}
 use Rattle.cue_book.specs.Reading.{refused, cues, readBook, refusalOf, numberOf, cuesIn}
 use Rattle.cue_book.specs.Places.{bookAnswer}
 use Rattle.cue_book.proofs.Books.{refused-book}
-use Rattle.resolver.specs.Resolver.{resolveFrom, memoryRefusal, refusing, withBook, outcome, Resolved}
+use Rattle.resolver.specs.Resolver.{resolveFrom, memoryRefusal, Outcome, refusing, withBook, outcome, Resolved}
 use Rattle.resolver.specs.Walking.{Placed}
 
 -- ---- the tests of the memory
@@ -92,11 +92,14 @@ module _ (book text copy phrase scratch entries : List ℕ) where
   resolved-refused : {number index : ℕ} → outcome book text copy phrase scratch entries ≡ refusing number index → Resolved book text copy phrase scratch entries (record { refusal = number; number = index }) copy phrase scratch entries
   resolved-refused e = record { answer = rw e; copied = rw e; cleared = rw e; emptied = rw e; entered = rw e (sym (received-none entries)) }
 
+  outcome-memory : (memoryRefusal (length text) (length copy) (length phrase) (length scratch) ≡ 0 → ⊥)
+      → outcome book text copy phrase scratch entries ≡ refusing (memoryRefusal (length text) (length copy) (length phrase) (length scratch)) 0
+  unfolding outcome
+  outcome-memory some = rw (ne-eqb (memoryRefusal (length text) (length copy) (length phrase) (length scratch)) 0 some)
+
   pub resolved-memory : {number : ℕ} → number ≡ memoryRefusal (length text) (length copy) (length phrase) (length scratch) → (number ≡ 0 → ⊥)
       → Resolved book text copy phrase scratch entries (record { refusal = number; number = 0 }) copy phrase scratch entries
-  unfolding outcome
-  resolved-memory {number} e some =
-      resolved-refused (rw (ne-eqb (memoryRefusal (length text) (length copy) (length phrase) (length scratch)) 0 (λ z. some (e ∙ z))) (ap (λ (m : ℕ). refusing m 0) (sym e)))
+  resolved-memory {number} e some = resolved-refused (outcome-memory (λ z. some (e ∙ z)) ∙ ap (λ (m : ℕ). refusing m 0) (sym e))
 
   module _ (fine : memoryRefusal (length text) (length copy) (length phrase) (length scratch) ≡ 0) where
     outcome-fine : outcome book text copy phrase scratch entries ≡ withBook text (length entries) (readBook book)
@@ -122,3 +125,23 @@ module _ (book text copy phrase scratch entries : List ℕ) where
         let cs = cuesIn (readBook book) in
         let e = outcome-fine ∙ ap (withBook text (length entries)) read ∙ with-room text (length entries) cs room in
         record { answer = rw e (placed .answer); copied = rw e c; cleared = rw e p; emptied = rw e s; entered = rw e (placed .entered) }
+
+  -- where cues are resolved, the tests were passed, and the outcome is that of the cues
+  pub worked : (cs : List Cue) → readBook book ≡ cues cs → outcome book text copy phrase scratch entries .works ≡ true
+      → (outcome book text copy phrase scratch entries ≡ record { works = true; resolution = resolveFrom 0 text cs }) × (3 * length cs ≤ length entries)
+  worked cs e works =
+      by-test (λ _. (outcome book text copy phrase scratch entries ≡ record { works = true; resolution = resolveFrom 0 text cs }) × (3 * length cs ≤ length entries)) (eqb memory 0)
+      (λ t. with-memory (eqb-true memory 0 t))
+      (λ t. idle (sym works ∙ ap (λ (o : Outcome). o .works) (outcome-memory (eqb-false memory 0 t))))
+    where
+      memory : ℕ
+      memory = memoryRefusal (length text) (length copy) (length phrase) (length scratch)
+
+      idle : {A : Type 0} → true ≡ false → A
+      idle e = absurd (false≢true (sym e))
+
+      with-memory : memory ≡ 0 → (outcome book text copy phrase scratch entries ≡ record { works = true; resolution = resolveFrom 0 text cs }) × (3 * length cs ≤ length entries)
+      with-memory fine =
+          by-test (λ _. (outcome book text copy phrase scratch entries ≡ record { works = true; resolution = resolveFrom 0 text cs }) × (3 * length cs ≤ length entries)) (ltb (length entries) (3 * length cs))
+          (λ t. idle (sym works ∙ ap (λ (o : Outcome). o .works) (outcome-fine fine ∙ ap (withBook text (length entries)) e ∙ with-few text (length entries) cs (ltb-true (length entries) (3 * length cs) t))))
+          (λ t. let h = ltb-false (length entries) (3 * length cs) t in (outcome-fine fine ∙ ap (withBook text (length entries)) e ∙ with-room text (length entries) cs h, h))

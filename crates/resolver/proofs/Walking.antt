@@ -67,6 +67,17 @@ put-three list written at a b c e =
     ap (λ (l : List ℕ). set (set l (at + 1) b) (at + 2) c) first ∙ ap (λ (l : List ℕ). set l (at + 2) c) second ∙ ap (λ (k : ℕ). set (received list two) k c) size₂ ∙ received-more list two c
     ∙ ap (received list) (append-assoc one (b ∷ []) (c ∷ []) ∙ append-assoc written (a ∷ []) (b ∷ c ∷ []))
 
+-- ---- one cue of the whole
+
+module _ (index : ℕ) (text : List ℕ) (c : Cue) (cs : List Cue) where
+  pub resolve-there : isThere text c ≡ true → resolveFrom index text (c ∷ cs) ≡ after (entriesOf text c) (resolveFrom (suc index) text cs)
+  unfolding resolveFrom
+  resolve-there e = rw e
+
+  pub resolve-missing : isThere text c ≡ false → resolveFrom index text (c ∷ cs) ≡ record { refusal = 12; number = index; written = [] }
+  unfolding resolveFrom
+  resolve-missing e = rw e
+
 -- ---- what is known along the walk
 
 pub record Doing (book text : List ℕ) (cs : List Cue) (entries₀ : List ℕ) (index at place : ℕ) (entries : List ℕ) : Type 0 where
@@ -118,14 +129,14 @@ module _ {book text : List ℕ} {cs : List Cue} {entries₀ : List ℕ} {index a
   module _ (n : Next book (d .more) index place (d .rest)) where
     -- the occurrence of this cue does not exist
     pub doing-missing : isThere text (n .cue) ≡ false → resolveFrom 0 text cs ≡ record { refusal = 12; number = index; written = d .written }
-    unfolding resolveFrom
     doing-missing no-such =
-        d .whole ∙ ap (λ (l : List Cue). after (d .written) (resolveFrom index text l)) (n .is) ∙ rw no-such (ap (λ (w : List ℕ). record { refusal = 12; number = index; written = w }) (append-nil (d .written)))
+        d .whole ∙ ap (λ (l : List Cue). after (d .written) (resolveFrom index text l)) (n .is) ∙ ap (after (d .written)) (resolve-missing index text (n .cue) (n .later) no-such)
+        ∙ ap (λ (w : List ℕ). record { refusal = 12; number = index; written = w }) (append-nil (d .written))
 
     -- it exists, and its entries are put
     pub doing-next : {end : ℕ} {entries′ : List ℕ} → isThere text (n .cue) ≡ true → end ≡ place + cueSize (drop place book)
         → entries′ ≡ received entries₀ (d .written ++ entriesOf text (n .cue)) → Doing book text cs entries₀ (index + 1) (at + 3) end entries′
-    unfolding resolveFrom entriesOf
+    unfolding entriesOf
     doing-next {end} {entries′} there e put =
         let b = n .begun in
         record {
@@ -139,9 +150,9 @@ module _ {book text : List ℕ} {cs : List Cue} {entries₀ : List ℕ} {index a
           entered = put;
           whole =
               d .whole ∙ ap (λ (l : List Cue). after (d .written) (resolveFrom index text l)) (n .is)
-              ∙ rw there
-              (ap (λ (w : List ℕ). record { refusal = resolveFrom (suc index) text (n .later) .refusal; number = resolveFrom (suc index) text (n .later) .number; written = w })
-              (sym (append-assoc (d .written) (entriesOf text (n .cue)) (resolveFrom (suc index) text (n .later) .written))))
+              ∙ ap (after (d .written)) (resolve-there index text (n .cue) (n .later) there)
+              ∙ ap (λ (w : List ℕ). record { refusal = resolveFrom (suc index) text (n .later) .refusal; number = resolveFrom (suc index) text (n .later) .number; written = w })
+              (sym (append-assoc (d .written) (entriesOf text (n .cue)) (resolveFrom (suc index) text (n .later) .written)))
               ∙ ap (λ (i : ℕ). after (d .written ++ entriesOf text (n .cue)) (resolveFrom i text (n .later))) (sym (add-one index));
         }
 
