@@ -1,7 +1,7 @@
 // The room of the line rule (document 01, "Cue book, folding, lines"): which line of a text a place stands in, and at which column.
 // It leans on `matching` for case analysis alone. The rule is one definition, `lineColumn`, and one function, so that another rule can take its place.
 ghost use mathlib.Core.Path.{_≡_};
-ghost use Prim.Native.Nat.{_≤_};
+ghost use Prim.Native.Nat.{_+_, _≤_};
 ghost use lib.ListN.{length, take};
 ghost use Rattle.line_column.specs.LineColumn.{breaks, sinceBreak, lineColumn};
 
@@ -11,20 +11,34 @@ pub struct LineColumn {
     pub column: usize,
 }
 
-// How many of the first `end` bytes end a line.
-fn count_breaks(text: &[u8], end: usize) -> usize
-    requires { ⌜ end ≤ length (now text) ⌝ }
-    ensures { λ r. ⌜ r ≡ breaks (take end (now (text .entry))) ⌝ }
+// How many of the bytes from `start` up to `stop` end a line. They are at most 240, so that a byte holds the count and the compiler counts sixteen of them at a time.
+fn count_block(text: &[u8], start: usize, stop: usize) -> u8
+    requires { ⌜ (start ≤ stop) × ((stop ≤ start + 240) × (stop ≤ length (now text))) ⌝ }
+    ensures { λ r. ⌜ breaks (take stop (now (text .entry))) ≡ breaks (take start (now (text .entry))) + r ⌝ }
 {
     let mut count = 0;
-    let mut i = 0;
-    while i < end {
+    let mut i = start;
+    while i < stop {
         if text[i] == 10 {
             count += 1;
         }
         i += 1;
     }
     count
+}
+
+// How many of the first `end` bytes end a line, block by block.
+fn count_breaks(text: &[u8], end: usize) -> usize
+    requires { ⌜ end ≤ length (now text) ⌝ }
+    ensures { λ r. ⌜ r ≡ breaks (take end (now (text .entry))) ⌝ }
+{
+    let mut count = 0;
+    let mut i = 0;
+    while 240 <= end - i {
+        count += count_block(text, i, i + 240) as usize;
+        i += 240;
+    }
+    count + count_block(text, i, end) as usize
 }
 
 // How many bytes stand after the last line end among the first `end`: it looks back from there.

@@ -1,13 +1,12 @@
 -- `line_column::count_breaks` meets its contract. The loop's invariant: the line ends among the first i bytes are counted. Assumes nothing.
-use mathlib.Core.Path.{_≡_, sym, ap, _∙_}
-use mathlib.Core.Logic.{⊎-elim}
-use Prim.Native.Nat.{ℕ, _-_, _≤_}
+use borrow.Author.Needs.{needs}
+use mathlib.Core.Path.{_≡_, sym}
+use Prim.Native.Nat.{_+_, _-_, _≤_}
 use native.Mathlib.Omega.{arith}
-use native.Mathlib.Numerals.{add-one}
 use lib.ListN.{length, take}
 use lib.Seq.{length-take-le}
 use Rattle.line_column.specs.LineColumn.{breaks}
-use Rattle.line_column.proofs.Lines.{breaks-none, breaks-at, breaks-not, breaks-few}
+use Rattle.line_column.proofs.Lines.{breaks-none, breaks-few}
 use Rattle.line_column.proofs.count_breaks.Statement.{statement}
 use Rattle.line_column.proofs.count_breaks.Tie as tie
 
@@ -17,38 +16,60 @@ Inv-loop text end count₀ i₀ count i = (count ≡ breaks (take i text)) × (i
 abbrev μ-loop : tie.MeasureT-loop
 μ-loop text end count₀ i₀ count i = end - i
 
-loop-holds : tie.Need-loop-holds Inv-loop μ-loop
-loop-holds c = (sym (breaks-none (c .args .text .now)), omega arith)
+-- one block more
+counted : (c : tie.After-count-block Inv-loop μ-loop) → let l = c .before .before in l .loop .count + c .count-block .result ≡ breaks (take (l .loop .i + 240) (l .before .before .args .text .now))
+counted c =
+    let l = c .before .before in
+    let text = l .before .before .args .text .now in
+    let more : breaks (take (l .loop .i + 240) text) ≡ breaks (take (l .loop .i) text) + c .count-block .result = c .count-block .ensures in
+    omega (arith, more, l .loop .inv .0)
 
-shared-slice-read-if1 : tie.Need-shared-slice-read-if1 Inv-loop μ-loop
-shared-slice-read-if1 c = omega (arith, c .before .before .before .pre)
+-- the last, shorter one
+ended : (c : tie.After-count-block2 Inv-loop μ-loop) → let l = c .before .before in l .loop .count + c .count-block2 .result ≡ breaks (take (l .before .before .args .end) (l .before .before .args .text .now))
+ended c =
+    let l = c .before .before in
+    let text = l .before .before .args .text .now in
+    let more : breaks (take (l .before .before .args .end) text) ≡ breaks (take (l .loop .i) text) + c .count-block2 .result = c .count-block2 .ensures in
+    omega (arith, more, l .loop .inv .0)
+
+loop-holds : tie.Need-loop-holds Inv-loop μ-loop
+loop-holds c = (sym (breaks-none (c .before .args .text .now)), omega arith)
+
+sub-loop : tie.Need-sub-loop Inv-loop μ-loop
+sub-loop c = omega arith
+
+add-count-block : tie.Need-add-count-block Inv-loop μ-loop
+add-count-block c = omega (arith, c .before .before .before .fits .end)
+
+count-block-requires : tie.Need-count-block-requires Inv-loop μ-loop
+count-block-requires c κs = (omega arith, (omega arith, omega (arith, c .before .before .before .pre)))
+
+cast-count : tie.Need-cast-count Inv-loop μ-loop
+cast-count c = search needs
 
 add-count : tie.Need-add-count Inv-loop μ-loop
-add-count c =
-    let l = c .before .before .before in
-    let text = l .before .args .text .now in
-    omega (arith, l .loop .inv .0, breaks-few (take (l .loop .i) text), length-take-le (l .loop .i) text (omega (arith, l .before .pre)))
+add-count c = let l = c .before .before in let sum = counted c in omega (arith, sum, breaks-few (take (l .loop .i + 240) (l .before .before .args .text .now)), length-take-le (l .loop .i + 240) (l .before .before .args .text .now) (omega (arith, l .before .before .pre)), l .before .before .fits .end)
 
 add-i : tie.Need-add-i Inv-loop μ-loop
-add-i c = omega arith
+add-i c = omega (arith, c .before .before .before .before .fits .end)
 
 loop-less : tie.Need-loop-less Inv-loop μ-loop
 loop-less c = omega arith
 
 loop-again : tie.Need-loop-again Inv-loop μ-loop
-loop-again c =
-    let l = c .before .before .before in
-    let text = l .before .args .text .now in
-    let i = l .loop .i in (
-      ⊎-elim
-          (λ w. w .1 ∙ omega (arith, l .loop .inv .0, breaks-at text i (omega (arith, l .before .pre)) (w .0 .taken)) ∙ ap (λ (k : ℕ). breaks (take k text)) (sym (add-one i)))
-          (λ w. w .1 ∙ l .loop .inv .0 ∙ sym (breaks-not text i (omega (arith, l .before .pre)) (w .0 .left)) ∙ ap (λ (k : ℕ). breaks (take k text)) (sym (add-one i)))
-          (c .if1 .came),
-      omega arith,
-    )
+loop-again c = (counted c, omega arith)
+
+count-block-requires-2 : tie.Need-count-block-requires-2 Inv-loop μ-loop
+count-block-requires-2 c κs = (omega arith, (omega arith, c .before .before .before .pre))
+
+cast-result : tie.Need-cast-result Inv-loop μ-loop
+cast-result c = search needs
+
+add-result : tie.Need-add-result Inv-loop μ-loop
+add-result c = let s = c .before .before .before .before in let a = s .args in omega (arith, ended c, breaks-few (take (a .end) (a .text .now)), length-take-le (a .end) (a .text .now) (s .pre), s .fits .end)
 
 returns : tie.Need-returns Inv-loop μ-loop
-returns c = let l = c .before in let e : l .loop .i ≡ l .before .args .end = omega arith in l .loop .inv .0 ∙ ap (λ (k : ℕ). breaks (take k (l .before .args .text .now))) e
+returns c = ended c
 
 pub count-breaks-spec : {M : Type 1} → statement M
 count-breaks-spec =
@@ -57,9 +78,15 @@ count-breaks-spec =
     Inv-loop
     μ-loop
     loop-holds
-    shared-slice-read-if1
+    sub-loop
+    add-count-block
+    count-block-requires
+    cast-count
     add-count
     add-i
     loop-less
     loop-again
+    count-block-requires-2
+    cast-result
+    add-result
     returns)
