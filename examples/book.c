@@ -1,0 +1,200 @@
+/* Writes a cue book from a table: book [--latin1] < TABLE > BOOK
+ *
+ * A line of the table is a cue: ordinal, TAB, phrase, TAB, title. Empty lines and lines that begin with # are passed over. The table is in UTF-8, or
+ * with --latin1 in ISO 8859-1; the book is in ISO 8859-1. In phrase and title \n is byte 10, as in a phrase that goes over a line's end, \xNN the byte
+ * of that hexadecimal number, and \\ a backslash.
+ *
+ * Every line that is refused is told on standard error, and no book is written then; the exit status is 1. It is 2 if reading or writing fails. */
+#include <ctype.h>
+#include <stdio.h>
+#include <stdlib.h>
+#include <string.h>
+
+#include "libretto.h"
+
+enum { REFUSED = 1, FAILED = 2 };
+
+/* Room for the longest line that can be a cue, where each letter is written as \xNN. */
+#define LINE_ROOM (4 * (LIBRETTO_PHRASE_MAX + LIBRETTO_TITLE_MAX) + 100)
+
+/* A part of the line that is being read. */
+struct field {
+    uint8_t *bytes;
+    size_t len;
+};
+
+static int latin1;
+static uint8_t line[LINE_ROOM];
+static size_t line_len;
+
+/* The whole book is kept until every line is accepted: half a book would be taken for a whole one. */
+static uint8_t book[LIBRETTO_CUES_MAX * LIBRETTO_CUE_MAX];
+static size_t book_len, cues;
+
+/* Reads the next line without its end, which is byte 10, or 13 and 10; gives 0 if there is none. Of a line that is too long, the length alone is
+ * right. */
+static int read_line(void)
+{
+    int byte;
+
+    line_len = 0;
+    while ((byte = getchar()) != EOF && byte != '\n') {
+        if (line_len < LINE_ROOM)
+            line[line_len] = (uint8_t)byte;
+        line_len++;
+    }
+    if (line_len > 0 && line_len <= LINE_ROOM && line[line_len - 1] == '\r')
+        line_len--;
+    return byte != EOF || line_len > 0;
+}
+
+/* Takes the field up to the next TAB off the rest of the line; gives 0 if there is no TAB. */
+static int take_field(struct field *rest, struct field *field)
+{
+    uint8_t *tab = memchr(rest->bytes, '\t', rest->len);
+
+    if (tab == NULL)
+        return 0;
+    field->bytes = rest->bytes;
+    field->len = (size_t)(tab - rest->bytes);
+    rest->bytes += field->len + 1;
+    rest->len -= field->len + 1;
+    return 1;
+}
+
+/* The number that a field of digits writes, or -1 if it is no such field. What is above all ordinals stays above them. */
+static long read_ordinal(struct field field)
+{
+    long ordinal = field.len > 0 ? 0 : -1;
+
+    for (size_t i = 0; i < field.len; i++) {
+        if (!isdigit(field.bytes[i]))
+            return -1;
+        if (ordinal <= LIBRETTO_ORDINAL_MAX)
+            ordinal = 10 * ordinal + (field.bytes[i] - '0');
+    }
+    return ordinal;
+}
+
+/* Reads the letter that a backslash begins; see read_letter. */
+static size_t read_escape(const uint8_t *bytes, size_t len, uint8_t *letter)
+{
+    if (len >= 4 && bytes[1] == 'x' && isxdigit(bytes[2]) && isxdigit(bytes[3])) {
+        const char digits[] = {(char)bytes[2], (char)bytes[3], '\0'};
+        *letter = (uint8_t)strtoul(digits, NULL, 16);
+        return 4;
+    }
+    if (len >= 2 && (bytes[1] == 'n' || bytes[1] == '\\')) {
+        *letter = bytes[1] == 'n' ? '\n' : '\\';
+        return 2;
+    }
+    return 0;
+}
+
+/* Reads a letter from the front of one or more bytes and gives the number of bytes that write it, or 0 if they write no letter of ISO 8859-1. */
+static size_t read_letter(const uint8_t *bytes, size_t len, uint8_t *letter)
+{
+    if (bytes[0] == '\\')
+        return read_escape(bytes, len, letter);
+    if (latin1 || bytes[0] < 0x80) {
+        *letter = bytes[0];
+        return 1;
+    }
+    /* UTF-8 writes the letters 0x80 to 0xFF as 0xC2 or 0xC3, for their highest two bits, and a byte for the lower six. */
+    if ((bytes[0] != 0xC2 && bytes[0] != 0xC3) || len < 2 || (bytes[1] & 0xC0) != 0x80)
+        return 0;
+    *letter = (uint8_t)((bytes[0] & 0x03) << 6 | (bytes[1] & 0x3F));
+    return 2;
+}
+
+/* Turns a field into its letters, in place, since no letter is longer than the bytes that write it; gives what is wrong with it, or NULL. */
+static const char *read_letters(struct field *field)
+{
+    size_t from = 0, letters = 0;
+
+    while (from < field->len) {
+        const uint8_t *bytes = field->bytes + from;
+        uint8_t letter;
+        size_t read = read_letter(bytes, field->len - from, &letter);
+        if (read == 0)
+            return bytes[0] == '\\' ? "a backslash begins none of \\n, \\xNN and \\\\" :
+                   "a letter is not in ISO 8859-1, or the table is not in UTF-8";
+        from += read;
+        field->bytes[letters++] = letter;
+    }
+    field->len = letters;
+    return NULL;
+}
+
+/* Why a cue was refused. The buffer is never too short for it. */
+static const char *words(uint32_t refusal)
+{
+    switch (refusal) {
+    case LIBRETTO_OK:
+        return NULL;
+    case LIBRETTO_NO_PHRASE:
+        return "the phrase has no letters";
+    case LIBRETTO_LONG_PHRASE:
+        return "the phrase has more than 1,024 letters";
+    case LIBRETTO_BAD_FIELD:
+        return "the ordinal is not from 1 to 65,535, or the title has more than 200 letters";
+    default:
+        return "the cue was refused";
+    }
+}
+
+/* Puts the line's cue at the book's end; gives what is wrong with it, or NULL. */
+static const char *add_cue(void)
+{
+    struct field title = {line, line_len}, number, phrase;
+
+    if (line_len > LINE_ROOM)
+        return "the line is too long";
+    if (!take_field(&title, &number) || !take_field(&title, &phrase) || memchr(title.bytes, '\t', title.len) != NULL)
+        return "the line is not ordinal, TAB, phrase, TAB, title";
+    long ordinal = read_ordinal(number);
+    if (ordinal < 0)
+        return "the ordinal is not a number";
+    const char *wrong = read_letters(&phrase);
+    if (wrong == NULL)
+        wrong = read_letters(&title);
+    if (wrong != NULL)
+        return wrong;
+    if (cues == LIBRETTO_CUES_MAX)
+        return "the book has 999 cues already";
+
+    libretto_answer written = libretto_write_cue(book + book_len, sizeof book - book_len, phrase.bytes, phrase.len, (uint32_t)ordinal,
+                                                 title.bytes, title.len);
+    if (written.refusal == LIBRETTO_OK) {
+        book_len += written.number;
+        cues++;
+    }
+    return words(written.refusal);
+}
+
+int main(int argc, char **argv)
+{
+    int status = 0;
+
+    latin1 = argc == 2 && strcmp(argv[1], "--latin1") == 0;
+    if (argc != 1 + latin1) {
+        fputs("usage: book [--latin1] < TABLE > BOOK\n", stderr);
+        return FAILED;
+    }
+    for (unsigned long number = 1; read_line(); number++) {
+        const char *wrong = line_len == 0 || line[0] == '#' ? NULL : add_cue();
+        if (wrong != NULL) {
+            fprintf(stderr, "line %lu: %s\n", number, wrong);
+            status = REFUSED;
+        }
+    }
+    if (ferror(stdin)) {
+        perror("standard input");
+        return FAILED;
+    }
+    if (status == 0 && (fwrite(book, 1, book_len, stdout) != book_len || fflush(stdout) != 0)) {
+        perror("standard output");
+        return FAILED;
+    }
+    return status;
+}
