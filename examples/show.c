@@ -1,0 +1,231 @@
+/* Prints the show file of a libretto and a cue book: show [--latin1] TEXT BOOK
+ *
+ * First a line for each cue: its index from 0, its place from 0, its line and its column from 1, and its title, which may be empty. Then the refrain
+ * list of each phrase: how often it stands in the text, whether in capital or small letters and overlapping ones included, and at which places.
+ * Cues whose phrases differ in capital and small letters alone count on one refrain, which is printed as the first of them writes it.
+ *
+ * Text and book are in ISO 8859-1. Titles and phrases are printed in UTF-8, or with --latin1 as they stand. A byte 10 in them is printed as \n, another
+ * control byte as \xNN with its hexadecimal number, and a backslash as \\, so that each keeps to its line.
+ *
+ * What the library refuses is told on standard error, and no show file is printed then; the exit status is 1. It is 2 if reading or writing fails. */
+#include <assert.h>
+#include <stdio.h>
+#include <string.h>
+
+#include "libretto.h"
+
+enum { REFUSED = 1, FAILED = 2 };
+
+/* One byte more than the library takes, so that of a file that is too long enough is read to have it refused. */
+#define TEXT_ROOM (LIBRETTO_TEXT_MAX + 1)
+#define BOOK_ROOM (LIBRETTO_CUES_MAX * LIBRETTO_CUE_MAX + 1)
+
+#define PLACES_A_ROW 10
+
+/* What the library does not tell of a cue: where in the book its phrase stands, and its ordinal. */
+struct cue {
+    libretto_part phrase;
+    unsigned ordinal;
+};
+
+static int latin1;
+
+static uint8_t text[TEXT_ROOM], book[BOOK_ROOM];
+static size_t text_len, book_len;
+
+static struct cue cues[LIBRETTO_CUES_MAX];
+static size_t cues_len;
+
+/* The text folded, and the phrases folded, each where it stands in the book. */
+static uint8_t folded_text[LIBRETTO_TEXT_MAX], folded_book[BOOK_ROOM];
+
+/* Lent to the library: it allocates nothing, and here is as much as any libretto and any book need. */
+static uint8_t phrase_buffer[LIBRETTO_PHRASE_BUFFER];
+static uint16_t scratch[LIBRETTO_SCRATCH_RESOLVER];
+static uint32_t entries[LIBRETTO_CUES_MAX * LIBRETTO_CUE_ENTRIES];
+static uint32_t list[LIBRETTO_TEXT_MAX];
+
+/* Reads a file, or as much of it as there is room for; gives 0 if that fails. */
+static int read_file(const char *path, uint8_t *bytes, size_t room, size_t *len)
+{
+    FILE *file = fopen(path, "rb");
+
+    if (file == NULL) {
+        perror(path);
+        return 0;
+    }
+    *len = fread(bytes, 1, room, file);
+    int failed = ferror(file);
+    if (failed)
+        perror(path);
+    fclose(file);
+    return !failed;
+}
+
+/* Prints letters of ISO 8859-1. */
+static void print_letters(FILE *out, const uint8_t *letters, size_t len)
+{
+    for (size_t i = 0; i < len; i++) {
+        unsigned letter = letters[i];
+        if (letter == '\n')
+            fputs("\\n", out);
+        else if (letter == '\\')
+            fputs("\\\\", out);
+        else if (letter < 0x20 || (letter >= 0x7F && letter < 0xA0))
+            fprintf(out, "\\x%02x", letter);
+        else if (letter < 0x80 || latin1)
+            putc((int)letter, out);
+        else
+            fprintf(out, "%c%c", (int)(0xC0 | letter >> 6), (int)(0x80 | (letter & 0x3F)));
+    }
+}
+
+static void print_phrase(FILE *out, const struct cue *cue)
+{
+    putc('"', out);
+    print_letters(out, book + cue->phrase.start, cue->phrase.len);
+    putc('"', out);
+}
+
+/* Notes the cues of a book that the library has accepted: then every tag, every length and every body is as it should be. */
+static void note_cues(void)
+{
+    libretto_part body;
+
+    for (size_t place = 0; place < book_len; place = body.start + body.len) {
+        body.start = place + 3;
+        body.len = (size_t)book[place + 1] << 8 | book[place + 2];
+        if (book[place] == 1) {
+            cues[cues_len++].phrase = body;
+            for (size_t i = body.start; i < body.start + body.len; i++)
+                folded_book[i] = libretto_fold(book[i]);
+        } else if (book[place] == 2) {
+            cues[cues_len - 1].ordinal = (unsigned)book[body.start] << 8 | book[body.start + 1];
+        }
+    }
+}
+
+static libretto_answer resolve(void)
+{
+    return libretto_resolve(book, book_len, text, text_len, folded_text, sizeof folded_text, phrase_buffer, LIBRETTO_PHRASE_BUFFER, scratch,
+                            LIBRETTO_SCRATCH_RESOLVER, entries, sizeof entries / sizeof *entries);
+}
+
+/* Lists all places of a cue's folded phrase in the folded text, which the resolver has left in its copy; gives their number. */
+static uint32_t list_refrain(const struct cue *cue)
+{
+    libretto_finding found = libretto_find(LIBRETTO_FJS, folded_book + cue->phrase.start, cue->phrase.len, folded_text, text_len, scratch,
+                                           LIBRETTO_SCRATCH_RESOLVER, list, LIBRETTO_TEXT_MAX);
+
+    /* The resolver has searched for this phrase in this text with this scratch before. */
+    assert(found.refusal == LIBRETTO_OK);
+    return found.total;
+}
+
+static const char *words(uint32_t refusal)
+{
+    switch (refusal) {
+    case LIBRETTO_LONG_TEXT:
+        return "the text has more than 32,768 bytes";
+    case LIBRETTO_CUT_FIELD:
+        return "the book ends inside a field";
+    case LIBRETTO_WRONG_TAG:
+        return "a field's tag is not the one due";
+    case LIBRETTO_BAD_FIELD:
+        return "a field's length is not allowed, or the ordinal is not from 1 to 65,535";
+    case LIBRETTO_LONG_BOOK:
+        return "bytes remain after 999 cues";
+    case LIBRETTO_NO_OCCURRENCE:
+        return "the cue's occurrence does not exist";
+    default:
+        return "the lent memory is too short";
+    }
+}
+
+/* Tells why the text, or a cue of the book, was refused, and of a missing occurrence also which one and how many there are. */
+static int refuse(const char *text_path, const char *book_path, libretto_answer answer)
+{
+    if (answer.refusal == LIBRETTO_LONG_TEXT)
+        fprintf(stderr, "%s: %s", text_path, words(answer.refusal));
+    else
+        fprintf(stderr, "%s: cue %u: %s", book_path, (unsigned)answer.number, words(answer.refusal));
+    if (answer.refusal == LIBRETTO_NO_OCCURRENCE) {
+        const struct cue *cue = &cues[answer.number];
+        fprintf(stderr, ": ordinal %u of ", cue->ordinal);
+        print_phrase(stderr, cue);
+        fprintf(stderr, ", total %u", (unsigned)list_refrain(cue));
+    }
+    putc('\n', stderr);
+    return REFUSED;
+}
+
+static void print_cues(void)
+{
+    printf("cue  place   line  column  title\n");
+    for (size_t i = 0; i < cues_len; i++) {
+        const uint32_t *entry = entries + i * LIBRETTO_CUE_ENTRIES;
+        libretto_part title = libretto_title(book, book_len, (uint32_t)i);
+        printf("%3u  %5u  %5u  %6u", (unsigned)i, (unsigned)entry[0], (unsigned)entry[1], (unsigned)entry[2]);
+        if (title.len > 0)
+            printf("  ");
+        print_letters(stdout, book + title.start, title.len);
+        printf("\n");
+    }
+}
+
+/* Whether no cue before this one has its folded phrase. */
+static int is_first(size_t index)
+{
+    libretto_part phrase = cues[index].phrase;
+
+    for (size_t i = 0; i < index; i++) {
+        libretto_part other = cues[i].phrase;
+        if (other.len == phrase.len && memcmp(folded_book + other.start, folded_book + phrase.start, phrase.len) == 0)
+            return 0;
+    }
+    return 1;
+}
+
+static void print_refrains(void)
+{
+    printf("total  phrase, and below it its places\n");
+    for (size_t i = 0; i < cues_len; i++) {
+        if (!is_first(i))
+            continue;
+        uint32_t total = list_refrain(&cues[i]);
+        printf("%5u  ", (unsigned)total);
+        print_phrase(stdout, &cues[i]);
+        for (uint32_t k = 0; k < total; k++)
+            printf("%s%5u", k % PLACES_A_ROW == 0 ? "\n       " : "  ", (unsigned)list[k]);
+        printf("\n");
+    }
+}
+
+int main(int argc, char **argv)
+{
+    latin1 = argc > 1 && strcmp(argv[1], "--latin1") == 0;
+    if (argc != 3 + latin1) {
+        fputs("usage: show [--latin1] TEXT BOOK\n", stderr);
+        return FAILED;
+    }
+    const char *text_path = argv[1 + latin1], *book_path = argv[2 + latin1];
+    if (!read_file(text_path, text, TEXT_ROOM, &text_len) || !read_file(book_path, book, BOOK_ROOM, &book_len))
+        return FAILED;
+
+    libretto_answer read = libretto_read_book(book, book_len);
+    if (read.refusal != LIBRETTO_OK)
+        return refuse(text_path, book_path, read);
+    note_cues();
+    libretto_answer resolved = resolve();
+    if (resolved.refusal != LIBRETTO_OK)
+        return refuse(text_path, book_path, resolved);
+
+    print_cues();
+    printf("\n");
+    print_refrains();
+    if (ferror(stdout) || fflush(stdout) != 0) {
+        perror("standard output");
+        return FAILED;
+    }
+    return 0;
+}
