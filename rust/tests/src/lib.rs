@@ -9,6 +9,7 @@ pub mod books;
 mod cue_book;
 mod find;
 mod lent;
+pub mod programs;
 mod resolver;
 pub mod verses;
 pub mod words;
