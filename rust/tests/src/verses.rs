@@ -46,10 +46,16 @@ pub fn verse(alphabet: &[u8], length: usize, random: &mut Random) -> Vec<u8> {
     verse
 }
 
+/// The places of the phrase, which is not empty, in the text, in any case.
+pub fn places(phrase: &[u8], text: &[u8]) -> Vec<usize> {
+    let same = |(&a, &b): (&u8, &u8)| a == b || a == other_case(b);
+    let stands = |window: &[u8]| window.iter().zip(phrase).all(same);
+    text.windows(phrase.len()).enumerate().filter(|(_, window)| stands(window)).map(|(place, _)| place).collect()
+}
+
 /// How often the phrase occurs in the text, in any case.
 pub fn total(phrase: &[u8], text: &[u8]) -> usize {
-    let same = |(&a, &b): (&u8, &u8)| a == b || a == other_case(b);
-    text.windows(phrase.len()).filter(|window| window.iter().zip(phrase).all(same)).count()
+    places(phrase, text).len()
 }
 
 /// A cue that stands in the text, which is not empty: a stretch of up to `longest` letters in any case, with the ordinal of one of its occurrences.

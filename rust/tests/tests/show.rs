@@ -1,0 +1,315 @@
+//! The programs for titling desks, as processes: `book` writes a cue book from a table, and `show` prints the show file, once in C and once over the
+//! safe interface, which must print the same.
+
+use libretto_tests::books::{book, Cue, CUES};
+use libretto_tests::programs::{c_example, repository, rust_example};
+use libretto_tests::verses::{self, places};
+use libretto_tests::Random;
+use std::fs::{self, File};
+use std::path::{Path, PathBuf};
+use std::process::{Command, Stdio};
+use std::slice;
+use std::sync::LazyLock;
+
+const HEAD: &str = "cue  place   line  column  title\n";
+const REFRAINS: &str = "\ntotal  phrase, and below it its places\n";
+
+struct Programs {
+    book: PathBuf,
+    shows: [PathBuf; 2],
+}
+
+static PROGRAMS: LazyLock<Programs> = LazyLock::new(|| {
+    let folder = Path::new(env!("CARGO_TARGET_TMPDIR"));
+    let target = folder.parent().expect("cargo's folder for tests lies in its target folder");
+    Programs { book: c_example("book", folder), shows: [c_example("show", folder), rust_example("show", target)] }
+});
+
+/// What a program leaves.
+#[derive(PartialEq)]
+struct Left {
+    status: Option<i32>,
+    out: Vec<u8>,
+    errors: Vec<u8>,
+}
+
+impl Left {
+    fn told(&self) -> String {
+        let [out, errors] = [&self.out, &self.errors].map(|bytes| String::from_utf8_lossy(bytes));
+        format!("status {:?}\nprinted\n{out}\nerrors\n{errors}", self.status)
+    }
+
+    #[track_caller]
+    fn is(&self, status: i32, out: &[u8], errors: &str) {
+        let due = Left { status: Some(status), out: out.to_vec(), errors: errors.as_bytes().to_vec() };
+        assert!(*self == due, "left: {}\ndue: {}", self.told(), due.told());
+    }
+
+    #[track_caller]
+    fn is_refusal(&self, errors: &str) {
+        self.is(1, b"", errors);
+    }
+
+    #[track_caller]
+    fn is_failure(&self, errors: &str) {
+        self.is(2, b"", errors);
+    }
+}
+
+/// A folder of a test's own, in which the programs run, so that what they tell of a file names no path.
+struct Desk(PathBuf);
+
+impl Desk {
+    fn new(test: &str) -> Desk {
+        let folder = Path::new(env!("CARGO_TARGET_TMPDIR")).join(format!("desk-{test}"));
+        fs::create_dir_all(&folder).expect("the folder is made");
+        Desk(folder)
+    }
+
+    fn write(&self, name: &str, bytes: &[u8]) {
+        fs::write(self.0.join(name), bytes).expect("the file is written");
+    }
+
+    fn run(&self, program: &Path, arguments: &[&str], input: Stdio, out: Stdio) -> Left {
+        let command = Command::new(program).current_dir(&self.0).args(arguments).stdin(input).stdout(out).stderr(Stdio::piped()).spawn();
+        let output = command.and_then(|child| child.wait_with_output()).expect("the program runs");
+        Left { status: output.status.code(), out: output.stdout, errors: output.stderr }
+    }
+
+    /// Makes a book of this table.
+    fn book(&self, arguments: &[&str], table: &[u8]) -> Left {
+        self.write("table", table);
+        let table = File::open(self.0.join("table")).expect("the table opens");
+        self.run(&PROGRAMS.book, arguments, table.into(), Stdio::piped())
+    }
+
+    /// Runs both show programs, which must leave the same.
+    #[track_caller]
+    fn show_into(&self, arguments: &[&str], out: impl Fn() -> Stdio) -> Left {
+        let [c, rust] = [0, 1].map(|k| self.run(&PROGRAMS.shows[k], arguments, Stdio::null(), out()));
+        assert!(c == rust, "in C: {}\nin Rust: {}", c.told(), rust.told());
+        c
+    }
+
+    #[track_caller]
+    fn show(&self, arguments: &[&str]) -> Left {
+        self.show_into(arguments, Stdio::piped)
+    }
+
+    /// Shows this book in this text.
+    #[track_caller]
+    fn show_of(&self, text: &[u8], book: &[u8]) -> Left {
+        self.write("text", text);
+        self.write("book", book);
+        self.show(&["text", "book"])
+    }
+}
+
+fn example(name: &str) -> Vec<u8> {
+    fs::read(repository().join("examples").join(name)).unwrap_or_else(|error| panic!("examples/{name}: {error}"))
+}
+
+/// Text in UTF-8 turned into ISO 8859-1.
+fn latin1(utf8: &[u8]) -> Vec<u8> {
+    let text = std::str::from_utf8(utf8).expect("the text is in UTF-8");
+    text.chars().map(|letter| u8::try_from(letter).expect("the letter is in ISO 8859-1")).collect()
+}
+
+/// Letters as a show file has them, where byte 10 is the only one that is written in another way.
+fn shown(letters: &[u8]) -> String {
+    letters.iter().map(|&letter| char::from(letter)).collect::<String>().replace('\n', "\\n")
+}
+
+/// The show file of cues that stand in the text, by brute force.
+fn show_file(text: &[u8], cues: &[Cue]) -> String {
+    let mut file = HEAD.to_string();
+    for (index, cue) in cues.iter().enumerate() {
+        let place = places(&cue.phrase, text)[usize::from(cue.ordinal) - 1];
+        let lines: Vec<&[u8]> = text[..place].split(|&letter| letter == 10).collect();
+        let line = format!("{index:3}  {place:5}  {:5}  {:6}  {}", lines.len(), lines[lines.len() - 1].len() + 1, shown(&cue.title));
+        file += &format!("{}\n", line.trim_end());
+    }
+    file += REFRAINS;
+    let mut printed: Vec<Vec<usize>> = Vec::new();
+    for cue in cues {
+        let places = places(&cue.phrase, text);
+        // Phrases of cues that stand in the text are the same in any case exactly if they are of one length and have one list.
+        let list = [&[cue.phrase.len()], &places[..]].concat();
+        if !printed.contains(&list) {
+            file += &format!("{:5}  \"{}\"\n", places.len(), shown(&cue.phrase));
+            for row in places.chunks(10) {
+                let row: Vec<String> = row.iter().map(|place| format!("{place:5}")).collect();
+                file += &format!("       {}\n", row.join("  "));
+            }
+            printed.push(list);
+        }
+    }
+    file
+}
+
+#[test]
+fn the_aria() {
+    let desk = Desk::new("aria");
+    let (text, table, expected) = (example("aria.txt"), example("aria.cues"), example("aria.show"));
+    let made = desk.book(&[], &table);
+    made.is(0, &example("aria.book"), "");
+    desk.book(&["--latin1"], &latin1(&table)).is(0, &made.out, "");
+
+    desk.show_of(&text, &made.out).is(0, &expected, "");
+    desk.show(&["--latin1", "text", "book"]).is(0, &latin1(&expected), "");
+}
+
+#[test]
+fn random_verses() {
+    let desk = Desk::new("verses");
+    let mut random = Random::new(71);
+    for round in 0..60 {
+        let alphabet = verses::ALPHABETS[round % verses::ALPHABETS.len()];
+        let length = random.between(1, 300);
+        let text = verses::verse(alphabet, length, &mut random);
+        let cues: Vec<Cue> = (0..random.between(0, 12)).map(|_| verses::standing(&text, 5, &mut random)).collect();
+        desk.show_of(&text, &book(&cues)).is(0, show_file(&text, &cues).as_bytes(), "");
+
+        let missing = verses::missing(alphabet, &text, &mut random);
+        let total = verses::total(&missing.phrase, &text);
+        desk.show_of(&text, &book(&[&cues[..], slice::from_ref(&missing)].concat())).is_refusal(&format!(
+            "book: cue {}: the cue's occurrence does not exist: ordinal {} of \"{}\", total {total}\n",
+            cues.len(),
+            missing.ordinal,
+            shown(&missing.phrase)
+        ));
+    }
+}
+
+#[test]
+fn nothing_to_show() {
+    let desk = Desk::new("nothing");
+    let no_cues = [HEAD, REFRAINS].concat();
+    desk.show_of(b"", b"").is(0, no_cues.as_bytes(), "");
+    desk.show_of(b"la la", b"").is(0, no_cues.as_bytes(), "");
+    let missing = "book: cue 0: the cue's occurrence does not exist: ordinal 1 of \"la\", total 0\n";
+    desk.show_of(b"", &book(&[Cue::new(b"la", 1, b"")])).is_refusal(missing);
+    desk.book(&[], b"").is(0, b"", "");
+    desk.book(&[], b"# no cue\n\n\r\n#").is(0, b"", "");
+}
+
+#[test]
+fn limits() {
+    let desk = Desk::new("limits");
+    let text = [b'a'; 32_769];
+    let longest = [Cue::new(b"A", 32_768, &[b'T'; 200]), Cue::new(&text[..1024], 31_745, b"")];
+    desk.show_of(&text[..32_768], &book(&longest)).is(0, show_file(&text[..32_768], &longest).as_bytes(), "");
+    desk.show_of(&text, &book(&longest)).is_refusal("text: the text has more than 32,768 bytes\n");
+    // The book is read before the text is looked at.
+    desk.show_of(&text, b"\x01").is_refusal("book: cue 0: the book ends inside a field\n");
+
+    let numbers: Vec<String> = (0..=CUES).map(|number| format!("#{number:03}")).collect();
+    let cues: Vec<Cue> = numbers.iter().map(|number| Cue::new(number.as_bytes(), 1, b"")).collect();
+    let text = numbers.concat();
+    desk.show_of(text.as_bytes(), &book(&cues[..CUES])).is(0, show_file(text.as_bytes(), &cues[..CUES]).as_bytes(), "");
+    desk.show_of(text.as_bytes(), &book(&cues)).is_refusal("book: cue 999: bytes remain after 999 cues\n");
+
+    let line = |number: &String| format!("1\t{number}\t\n");
+    desk.book(&[], numbers[..CUES].iter().map(line).collect::<String>().as_bytes()).is(0, &book(&cues[..CUES]), "");
+    desk.book(&[], numbers.iter().map(line).collect::<String>().as_bytes()).is_refusal("line 1000: the book has 999 cues already\n");
+}
+
+#[test]
+fn damaged_books() {
+    let desk = Desk::new("damaged");
+    let (text, good) = (example("aria.txt"), example("aria.book"));
+    let damaged = |place: usize, byte| [&good[..place], &[byte], &good[place + 1..]].concat();
+    // The first cue's phrase has 11 bytes and its title 32, so the fields of the first cue begin at 0, 14 and 19, and the second cue at 54.
+    let cases = [
+        (good[..54 + 13].to_vec(), "cue 1: the book ends inside a field"),
+        (damaged(0, 2), "cue 0: a field's tag is not the one due"),
+        (damaged(54, 3), "cue 1: a field's tag is not the one due"),
+        (damaged(18, 0), "cue 0: a field's length is not allowed, or the ordinal is not from 1 to 65,535"),
+        (damaged(16, 3), "cue 0: a field's length is not allowed, or the ordinal is not from 1 to 65,535"),
+        ([&good[..], &[0]].concat(), "cue 17: the book ends inside a field"),
+    ];
+    for (book, told) in cases {
+        desk.show_of(&text, &book).is_refusal(&format!("book: {told}\n"));
+    }
+    for end in (1..good.len()).step_by(13) {
+        match libretto::read_book(&good[..end]) {
+            Ok(_) => assert_eq!(desk.show_of(&text, &good[..end]).status, Some(0)),
+            Err(refused) => desk.show_of(&text, &good[..end]).is_refusal(&format!("book: {refused}\n")),
+        }
+    }
+}
+
+#[test]
+fn refused_tables() {
+    let (phrase, title) = ("a".repeat(1025), "b".repeat(201));
+    let not_a_line = "the line is not ordinal, TAB, phrase, TAB, title";
+    let bad_field = "the ordinal is not from 1 to 65,535, or the title has more than 200 letters";
+    let no_letter = "a letter is not in ISO 8859-1, or the table is not in UTF-8";
+    let cases = [
+        ("la".to_string(), not_a_line),
+        ("1\tla".to_string(), not_a_line),
+        ("1\tla\tNo\t".to_string(), not_a_line),
+        ("\tla\tNo".to_string(), "the ordinal is not a number"),
+        ("-1\tla\tNo".to_string(), "the ordinal is not a number"),
+        ("0\tla\tNo".to_string(), bad_field),
+        ("65536\tla\tNo".to_string(), bad_field),
+        ("99999999999999999999\tla\tNo".to_string(), bad_field),
+        (format!("1\tla\t{title}"), bad_field),
+        ("1\t\tNo".to_string(), "the phrase has no letters"),
+        (format!("1\t{phrase}\tNo"), "the phrase has more than 1,024 letters"),
+        (format!("1\t{}\tNo", phrase.repeat(5)), "the line is too long"),
+        ("1\tdell\u{2019}aria\tNo".to_string(), no_letter),
+        ("1\tla\tc\u{153}ur".to_string(), no_letter),
+        ("1\tla\\\tNo".to_string(), "a backslash begins none of \\n, \\xNN and \\\\"),
+        ("1\tla\t\\x4".to_string(), "a backslash begins none of \\n, \\xNN and \\\\"),
+    ];
+    // All in one table, with a good line after each, so that every refused line is told and no book is written.
+    let table: String = cases.iter().map(|(line, _)| format!("{line}\n1\tla\tNo\r\n")).collect();
+    let told: String = cases.iter().enumerate().map(|(index, (_, told))| format!("line {}: {told}\n", 2 * index + 1)).collect();
+    let desk = Desk::new("tables");
+    desk.book(&[], table.as_bytes()).is_refusal(&told);
+    desk.book(&[], b"1\tl\xe0\tNo").is_refusal(&format!("line 1: {no_letter}\n"));
+    desk.book(&["--latin1"], b"1\tl\xe0\tNo").is(0, &book(&[Cue::new(b"l\xe0", 1, b"No")]), "");
+}
+
+#[test]
+fn every_byte() {
+    let desk = Desk::new("bytes");
+    let odd = b"\0\x1f \\\x7f\x80\x9f\xa0\xff\n";
+    let left = desk.show_of(odd, &book(&[Cue::new(odd, 1, odd)]));
+    let shown = "\\x00\\x1f \\\\\\x7f\\x80\\x9f\u{a0}\u{ff}\\n";
+    left.is(0, format!("{HEAD}  0      0      1       1  {shown}\n{REFRAINS}    1  \"{shown}\"\n           0\n").as_bytes(), "");
+
+    // What the show file has for a phrase and a title may be put into a table, and makes the same book.
+    let all: Vec<u8> = (0..=255).collect();
+    let cues: Vec<Cue> = all.chunks(128).map(|half| Cue::new(half, 1, half)).collect();
+    desk.write("text", &all);
+    desk.write("book", &book(&cues));
+    for option in [&[][..], &["--latin1"]] {
+        let left = desk.show(&[option, &["text", "book"]].concat());
+        let lines: Vec<&[u8]> = left.out.split(|&byte| byte == b'\n').collect();
+        let line = |cue: usize| {
+            let (title, phrase) = (&lines[1 + cue][27..], &lines[5 + 2 * cue][8..]);
+            [b"1\t", &phrase[..phrase.len() - 1], b"\t", title, b"\n"].concat()
+        };
+        desk.book(option, &[line(0), line(1)].concat()).is(0, &book(&cues), "");
+    }
+}
+
+#[test]
+fn files_that_fail() {
+    let desk = Desk::new("files");
+    desk.show_of(b"la", b"");
+    desk.show(&["absent", "book"]).is_failure("absent: No such file or directory\n");
+    desk.show(&["text", "absent"]).is_failure("absent: No such file or directory\n");
+    desk.show(&[".", "book"]).is_failure(".: Is a directory\n");
+    for arguments in [&[][..], &["text"], &["--latin1", "text"], &["text", "book", "more"]] {
+        desk.show(arguments).is_failure("usage: show [--latin1] TEXT BOOK\n");
+    }
+    desk.book(&["table"], b"").is_failure("usage: book [--latin1] < TABLE > BOOK\n");
+
+    let full = || File::options().write(true).open("/dev/full").expect("the full device opens").into();
+    desk.show_into(&["text", "book"], full).is_failure("standard output: No space left on device\n");
+    let folder = || File::open(&desk.0).expect("the folder opens").into();
+    desk.run(&PROGRAMS.book, &[], folder(), Stdio::piped()).is_failure("standard input: Is a directory\n");
+}
