@@ -1,8 +1,8 @@
 /* Writes a cue book from a table: book [--latin1] < TABLE > BOOK
  *
  * A line of the table is a cue: ordinal, TAB, phrase, TAB, title. Empty lines and lines that begin with # are passed over. The table is in UTF-8, or
- * with --latin1 in ISO 8859-1; the book is in ISO 8859-1. In phrase and title \n is byte 10, as in a phrase that goes over a line's end, \xNN the byte
- * of that hexadecimal number, and \\ a backslash.
+ * with --latin1 in ISO 8859-1; the book is in ISO 8859-1. In phrase and title \n is byte 10, as in a phrase that goes over a line's end, \xNN is the
+ * byte of that hexadecimal number, and \\ is a backslash.
  *
  * Every line that is refused is told on standard error, and no book is written then; the exit status is 1. It is 2 if reading or writing fails. */
 #include <ctype.h>
@@ -14,7 +14,7 @@
 
 enum { REFUSED = 1, FAILED = 2 };
 
-/* Room for the longest line that can be a cue, where each letter is written as \xNN. */
+/* Room for the longest cue with each letter written as \xNN, and 100 bytes more for the ordinal, the TABs and the line's end. */
 #define LINE_ROOM (4 * (LIBRETTO_PHRASE_MAX + LIBRETTO_TITLE_MAX) + 100)
 
 /* A part of the line that is being read. */

@@ -4,8 +4,8 @@
  * list of each phrase: how often it stands in the text, whether in capital or small letters and overlapping ones included, and at which places.
  * Cues whose phrases differ in capital and small letters alone count on one refrain, which is printed as the first of them writes it.
  *
- * Text and book are in ISO 8859-1. Titles and phrases are printed in UTF-8, or with --latin1 as they stand. A byte 10 in them is printed as \n, another
- * control byte as \xNN with its hexadecimal number, and a backslash as \\, so that each keeps to its line.
+ * Text and book are in ISO 8859-1. Titles and phrases are printed in UTF-8, or with --latin1 as they stand. A byte 10 in them is printed as \n, any
+ * other control byte as \xNN with its hexadecimal number, and a backslash as \\, so that each keeps to its line.
  *
  * What the library refuses is told on standard error, and no show file is printed then; the exit status is 1. It is 2 if reading or writing fails. */
 #include <assert.h>
