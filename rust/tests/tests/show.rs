@@ -207,11 +207,17 @@ fn limits() {
     let cues: Vec<Cue> = numbers.iter().map(|number| Cue::new(number.as_bytes(), 1, b"")).collect();
     let text = numbers.concat();
     desk.show_of(text.as_bytes(), &book(&cues[..CUES])).is(0, show_file(text.as_bytes(), &cues[..CUES]).as_bytes(), "");
-    desk.show_of(text.as_bytes(), &book(&cues)).is_refusal("book: cue 999: bytes remain after 999 cues\n");
+    let too_many = "book: cue 999: bytes remain after 999 cues\n";
+    desk.show_of(text.as_bytes(), &book(&cues)).is_refusal(too_many);
+    let longest = vec![Cue::new(&[b'a'; 1024], 1, &[b'T'; 200]); CUES];
+    desk.show_of(&[b'a'; 1024], &book(&longest)).is(0, show_file(&[b'a'; 1024], &longest).as_bytes(), "");
+    desk.show_of(&[b'a'; 1024], &[&book(&longest)[..], &[1]].concat()).is_refusal(too_many);
 
     let line = |number: &String| format!("1\t{number}\t\n");
     desk.book(&[], numbers[..CUES].iter().map(line).collect::<String>().as_bytes()).is(0, &book(&cues[..CUES]), "");
     desk.book(&[], numbers.iter().map(line).collect::<String>().as_bytes()).is_refusal("line 1000: the book has 999 cues already\n");
+    let longest = format!("65535\t{}\t{}\r\n", "\\xE0".repeat(1024), "\\x5C".repeat(200));
+    desk.book(&[], longest.as_bytes()).is(0, &book(&[Cue::new(&[0xe0; 1024], 65_535, &[b'\\'; 200])]), "");
 }
 
 #[test]
@@ -241,27 +247,31 @@ fn damaged_books() {
 
 #[test]
 fn refused_tables() {
-    let (phrase, title) = ("a".repeat(1025), "b".repeat(201));
+    let long_title = format!("1\tla\t{}", "b".repeat(201));
+    let [long_phrase, long_line] = [1025, 5000].map(|letters| format!("1\t{}\tNo", "a".repeat(letters)));
     let not_a_line = "the line is not ordinal, TAB, phrase, TAB, title";
     let bad_field = "the ordinal is not from 1 to 65,535, or the title has more than 200 letters";
     let no_letter = "a letter is not in ISO 8859-1, or the table is not in UTF-8";
+    let no_byte = "a backslash begins none of \\n, \\xNN and \\\\";
     let cases = [
-        ("la".to_string(), not_a_line),
-        ("1\tla".to_string(), not_a_line),
-        ("1\tla\tNo\t".to_string(), not_a_line),
-        ("\tla\tNo".to_string(), "the ordinal is not a number"),
-        ("-1\tla\tNo".to_string(), "the ordinal is not a number"),
-        ("0\tla\tNo".to_string(), bad_field),
-        ("65536\tla\tNo".to_string(), bad_field),
-        ("99999999999999999999\tla\tNo".to_string(), bad_field),
-        (format!("1\tla\t{title}"), bad_field),
-        ("1\t\tNo".to_string(), "the phrase has no letters"),
-        (format!("1\t{phrase}\tNo"), "the phrase has more than 1,024 letters"),
-        (format!("1\t{}\tNo", phrase.repeat(5)), "the line is too long"),
-        ("1\tdell\u{2019}aria\tNo".to_string(), no_letter),
-        ("1\tla\tc\u{153}ur".to_string(), no_letter),
-        ("1\tla\\\tNo".to_string(), "a backslash begins none of \\n, \\xNN and \\\\"),
-        ("1\tla\t\\x4".to_string(), "a backslash begins none of \\n, \\xNN and \\\\"),
+        ("la", not_a_line),
+        ("1\tla", not_a_line),
+        ("1\tla\tNo\t", not_a_line),
+        ("\tla\tNo", "the ordinal is not a number"),
+        ("-1\tla\tNo", "the ordinal is not a number"),
+        ("0\tla\tNo", bad_field),
+        ("65536\tla\tNo", bad_field),
+        ("99999999999999999999\tla\tNo", bad_field),
+        (&long_title, bad_field),
+        ("1\t\tNo", "the phrase has no letters"),
+        (&long_phrase, "the phrase has more than 1,024 letters"),
+        (&long_line, "the line is too long"),
+        ("1\tdell\u{2019}aria\tNo", no_letter),
+        ("1\tla\tc\u{153}ur", no_letter),
+        ("1\tla\\\tNo", no_byte),
+        ("1\tla\t\\x4", no_byte),
+        ("1\tla\t\\xg4", no_byte),
+        ("1\tla\t\\x4g", no_byte),
     ];
     // All in one table, with a good line after each, so that every refused line is told and no book is written.
     let table: String = cases.iter().map(|(line, _)| format!("{line}\n1\tla\tNo\r\n")).collect();
