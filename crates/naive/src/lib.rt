@@ -22,15 +22,17 @@ pub fn find(pattern: &[u8], text: &[u8], scratch: &mut [u16], list: &mut [u32]) 
     let mut compared = 0;
     let mut s = 0;
     while s + m <= n {
-        let mut k = 0;
-        if pattern[0] == text[s] {
-            k = 1;
-            while k < m {
-                if pattern[k] != text[s + k] {
-                    break;
-                }
-                k += 1;
+        if pattern[0] != text[s] {
+            compared += 1;
+            s += 1;
+            continue;
+        }
+        let mut k = 1;
+        while k < m {
+            if pattern[k] != text[s + k] {
+                break;
             }
+            k += 1;
         }
         compared += k;
         if k < m {
@@ -39,7 +41,7 @@ pub fn find(pattern: &[u8], text: &[u8], scratch: &mut [u16], list: &mut [u32]) 
             matching::store(list, total, s as u32);
             total += 1;
         }
-        s += 1;
+        s += 1; // by 1 also after an occurrence, since occurrences overlap
     }
     let found = total as u32;
     let looks = compared as u32;

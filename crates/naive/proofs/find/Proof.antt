@@ -27,41 +27,31 @@ abbrev μ-loop : tie.MeasureT-loop
 μ-loop pattern text scratch list₀ m n refusal total₀ compared₀ s₀ list total compared s = length text + 1 - s
 
 -- as many letters are equal as were reached
-reached : (j : tie.Joined2 Inv-loop2 μ-loop2 Inv-loop μ-loop)
-    → let l = j .before .before .before .before in let a = l .before .before .before .before .before .before .before .args in
-    j .if2 .k ≡ reach (a .pattern .now) (a .text .now) (l .loop .s) 0
+reached : (j : tie.Left-loop2 Inv-loop2 μ-loop2 Inv-loop μ-loop)
+    → let l = j .before .before .before .before .before .before in let a = l .before .before .before .before .before .before .before .args in
+    j .before .loop2 .k ≡ reach (a .pattern .now) (a .text .now) (l .loop .s) 0
 reached j =
-    let l = j .before .before .before .before in
+    let l = j .before .before .before .before .before .before in
     let a = l .before .before .before .before .before .before .before .args in
-    let P = a .pattern .now in
-    let T = a .text .now in
-    let some = l .loop .inv .0 .sound .some in
+    let b = j .before .loop2 in
     ⊎-elim
-    (λ w. w .3 ∙ sym (reach-done P T (l .loop .s) (w .1 .k) (w .2 .left)) ∙ w .1 .inv .0)
-    (⊎-elim
-    (λ w. w .6 ∙ sym (reach-unequal P T (l .loop .s) (w .1 .k) (w .2 .taken) (omega (arith, w .2 .taken)) (w .5 .taken)) ∙ w .1 .inv .0)
-    (λ w. w .1 ∙ sym (reach-nothing P T (l .loop .s) some (omega arith) (w .0 .left))))
-    (j .if2 .came)
-
-reached-le : (j : tie.Joined2 Inv-loop2 μ-loop2 Inv-loop μ-loop) → j .if2 .k ≤ length (j .before .before .before .before .before .before .before .before .before .before .before .args .pattern .now)
-reached-le j =
-    let l = j .before .before .before .before in
-    let a = l .before .before .before .before .before .before .before .args in
-    omega (arith, reached j, reach-le (a .pattern .now) (a .text .now) (l .loop .s) 0 (omega arith))
+    (λ w. sym (reach-done (a .pattern .now) (a .text .now) (l .loop .s) (b .k) (w .left)) ∙ b .inv .0)
+    (λ w. sym (reach-unequal (a .pattern .now) (a .text .now) (l .loop .s) (b .k) (w .0 .taken) (omega (arith, w .0 .taken)) (w .3 .taken)) ∙ b .inv .0)
+    (j .loop2-test .came)
 
 -- one window done, whether it reports or not
-stepped : (j : tie.Joined4 Inv-loop2 μ-loop2 Inv-loop μ-loop)
-    → let l = j .before .before .before .before .before .before in let a = l .before .before .before .before .before .before .before .args in
-    Progress naive (a .pattern .now) (a .text .now) (a .list .now) (at (l .loop .s + 1) 0) (j .if4 .total) (j .if4 .compared) (j .if4 .list)
+stepped : (c : tie.Joined4 Inv-loop2 μ-loop2 Inv-loop μ-loop)
+    → let l = c .before .before .before .before .before .before .before in let a = l .before .before .before .before .before .before .before .args in
+    Progress naive (a .pattern .now) (a .text .now) (a .list .now) (at (l .loop .s + 1) 0) (c .if4 .total) (c .if4 .compared) (c .if4 .list)
 unfolding window
-stepped j =
-    let l = j .before .before .before .before .before .before in
-    let p = l .loop .inv .0 in
-    let is = reached (j .before .before) in
+stepped c =
+    let j = c .before in
+    let p = j .before .before .before .before .before .before .loop .inv .0 in
+    let is = reached j in
     ⊎-elim
     (λ w. rw (w .1, w .2, w .3) (miss-up p (omega arith) refl is (w .0 .taken) (omega arith)))
-    (λ w. rw (w .5, w .6, w .7, w .2 .ensures) (hit-up p (omega arith) refl is (omega (arith, w .0 .left, reached-le (j .before .before))) (omega arith)))
-    (j .if4 .came)
+    (λ w. rw (w .5, w .6, w .7, w .2 .ensures) (hit-up p (omega arith) refl is (omega (arith, w .0 .left, j .before .loop2 .inv .1)) (omega arith)))
+    (c .if4 .came)
 
 refused-requires : tie.Need-refused-requires Inv-loop2 μ-loop2 Inv-loop μ-loop
 refused-requires c κs = omega arith
@@ -85,12 +75,30 @@ shared-slice-read-if2 c = omega (arith, c .before .before .loop .inv .0 .sound .
 shared-slice-read-if2-2 : tie.Need-shared-slice-read-if2-2 Inv-loop2 μ-loop2 Inv-loop μ-loop
 shared-slice-read-if2-2 c = omega (arith, c .before .before .before .loop .inv .0 .sound .some)
 
+add-compared : tie.Need-add-compared Inv-loop2 μ-loop2 Inv-loop μ-loop
+add-compared c = omega (arith, compared-small (c .before .before .before .before .loop .inv .0))
+
+add-s : tie.Need-add-s Inv-loop2 μ-loop2 Inv-loop μ-loop
+add-s c = omega (arith, c .before .before .before .before .loop .inv .0 .small)
+
+loop-less : tie.Need-loop-less Inv-loop2 μ-loop2 Inv-loop μ-loop
+loop-less c = omega arith
+
+loop-again : tie.Need-loop-again Inv-loop2 μ-loop2 Inv-loop μ-loop
+unfolding window
+loop-again c =
+    let l = c .before .before .before .before in
+    let a = l .before .before .before .before .before .before .before .args in
+    let p = l .loop .inv .0 in
+    let some = p .sound .some in
+    (miss-up p (omega arith) refl (sym (reach-nothing (a .pattern .now) (a .text .now) (l .loop .s) some (omega arith) (c .if2 .taken))) some (omega arith), omega (arith, some))
+
 loop2-holds : tie.Need-loop2-holds Inv-loop2 μ-loop2 Inv-loop μ-loop
 loop2-holds c =
     let l = c .before .before .before .before in
     let a = l .before .before .before .before .before .before .before .args in
     let some = l .loop .inv .0 .sound .some in
-    (sym (reach-first (a .pattern .now) (a .text .now) (l .loop .s) some (omega arith) (c .if2 .taken)), some)
+    (sym (reach-first (a .pattern .now) (a .text .now) (l .loop .s) some (omega arith) (c .if2 .left)), some)
 
 shared-slice-read-if3 : tie.Need-shared-slice-read-if3 Inv-loop2 μ-loop2 Inv-loop μ-loop
 shared-slice-read-if3 c = omega arith
@@ -114,29 +122,29 @@ loop2-again c =
     let a = l .before .before .before .before .before .before .before .args in
     (sym (reach-equal (a .pattern .now) (a .text .now) (l .loop .s) (i .loop2 .k) (omega arith) (omega arith) (c .if3 .left)) ∙ i .loop2 .inv .0, omega arith)
 
-add-compared : tie.Need-add-compared Inv-loop2 μ-loop2 Inv-loop μ-loop
-add-compared c = let p = c .before .before .before .before .before .loop .inv .0 in omega (arith, compared-small p, reached-le (c .before), p .short)
-
 add-compared-2 : tie.Need-add-compared-2 Inv-loop2 μ-loop2 Inv-loop μ-loop
-add-compared-2 c = let p = c .before .before .before .before .before .before .loop .inv .0 in omega (arith, compared-small p, reached-le (c .before .before), p .short)
+add-compared-2 c = let p = c .before .before .before .before .before .before .loop .inv .0 in omega (arith, compared-small p, c .before .loop2 .inv .1, p .short)
+
+add-compared-3 : tie.Need-add-compared-3 Inv-loop2 μ-loop2 Inv-loop μ-loop
+add-compared-3 c = let p = c .before .before .before .before .before .before .before .loop .inv .0 in omega (arith, compared-small p, c .before .before .loop2 .inv .1, p .short)
 
 cast-store : tie.Need-cast-store Inv-loop2 μ-loop2 Inv-loop μ-loop
-cast-store c = let p = c .before .before .before .before .before .before .before .loop .inv .0 in omega (arith, p .small)
+cast-store c = omega (arith, c .before .before .before .before .before .before .before .before .loop .inv .0 .small)
 
 store-requires : tie.Need-store-requires Inv-loop2 μ-loop2 Inv-loop μ-loop
 store-requires c κs = tt
 
 add-total : tie.Need-add-total Inv-loop2 μ-loop2 Inv-loop μ-loop
-add-total c = let p = c .before .before .before .before .before .before .before .before .before .before .loop .inv .0 in omega (arith, total-small p)
+add-total c = omega (arith, total-small (c .before .before .before .before .before .before .before .before .before .before .before .loop .inv .0))
 
-add-s : tie.Need-add-s Inv-loop2 μ-loop2 Inv-loop μ-loop
-add-s c = let p = c .before .before .before .before .before .before .loop .inv .0 in omega (arith, p .small)
+add-s-2 : tie.Need-add-s-2 Inv-loop2 μ-loop2 Inv-loop μ-loop
+add-s-2 c = omega (arith, c .before .before .before .before .before .before .before .loop .inv .0 .small)
 
-loop-less : tie.Need-loop-less Inv-loop2 μ-loop2 Inv-loop μ-loop
-loop-less c = omega arith
+loop-less-2 : tie.Need-loop-less-2 Inv-loop2 μ-loop2 Inv-loop μ-loop
+loop-less-2 c = omega arith
 
-loop-again : tie.Need-loop-again Inv-loop2 μ-loop2 Inv-loop μ-loop
-loop-again c = let p = c .before .before .before .before .before .before .loop .inv .0 in (stepped c, omega (arith, p .sound .some))
+loop-again-2 : tie.Need-loop-again-2 Inv-loop2 μ-loop2 Inv-loop μ-loop
+loop-again-2 c = (stepped c, omega (arith, c .before .before .before .before .before .before .before .loop .inv .0 .sound .some))
 
 cast-found : tie.Need-cast-found Inv-loop2 μ-loop2 Inv-loop μ-loop
 cast-found c = omega (arith, total-small (c .before .loop .inv .0))
@@ -166,6 +174,10 @@ find-spec =
     add-loop
     shared-slice-read-if2
     shared-slice-read-if2-2
+    add-compared
+    add-s
+    loop-less
+    loop-again
     loop2-holds
     shared-slice-read-if3
     add-if3
@@ -173,14 +185,14 @@ find-spec =
     add-k
     loop2-less
     loop2-again
-    add-compared
     add-compared-2
+    add-compared-3
     cast-store
     store-requires
     add-total
-    add-s
-    loop-less
-    loop-again
+    add-s-2
+    loop-less-2
+    loop-again-2
     cast-found
     cast-looks
     same-length
