@@ -49,7 +49,7 @@ pub fn find(pattern: &[u8], text: &[u8], scratch: &mut [u16], list: &mut [u32]) 
         let b = scratch[k] as usize;
         s += k + 1 - b;
         q = 0;
-        if 0 < b {
+        if 1 < b {
             q = b - 1;
         }
     }
