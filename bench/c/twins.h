@@ -1,0 +1,49 @@
+/* The library's six engines and its book reader written again in plain C, from the steps of document 01, to measure the library against.
+ *
+ * Each twin takes the memory that the library is lent and leaves it the same: its tables at the scratch's front, the first places in the list. What
+ * the library refuses is not tested here: the phrase has 1 to 1,024 bytes, the text at most 32,768, the scratch is long enough, and nothing overlaps.
+ * The book reader is the exception: its refusals are its work.
+ */
+#ifndef TWINS_H
+#define TWINS_H
+
+#include <stddef.h>
+#include <stdint.h>
+
+/* The total of occurrences, and the letter comparisons made. */
+struct twin_finding {
+    uint32_t total, comparisons;
+};
+
+struct twin_finding twin_naive(const uint8_t *phrase, size_t m, const uint8_t *text, size_t n, uint16_t *restrict scratch, uint32_t *restrict list,
+                               size_t list_len);
+struct twin_finding twin_kmp(const uint8_t *phrase, size_t m, const uint8_t *text, size_t n, uint16_t *restrict scratch, uint32_t *restrict list,
+                             size_t list_len);
+struct twin_finding twin_horspool(const uint8_t *phrase, size_t m, const uint8_t *text, size_t n, uint16_t *restrict scratch,
+                                  uint32_t *restrict list, size_t list_len);
+struct twin_finding twin_sunday(const uint8_t *phrase, size_t m, const uint8_t *text, size_t n, uint16_t *restrict scratch, uint32_t *restrict list,
+                                size_t list_len);
+struct twin_finding twin_fjs(const uint8_t *phrase, size_t m, const uint8_t *text, size_t n, uint16_t *restrict scratch, uint32_t *restrict list,
+                             size_t list_len);
+struct twin_finding twin_double_window(const uint8_t *phrase, size_t m, const uint8_t *text, size_t n, uint16_t *restrict scratch,
+                                       uint32_t *restrict list, size_t list_len);
+
+/* Every place of the phrase by glibc's memmem, called again one letter after each place; it counts no comparisons and gives the total. */
+uint32_t twin_memmem(const uint8_t *phrase, size_t m, const uint8_t *text, size_t n, uint32_t *restrict list, size_t list_len);
+
+/* A refusal or 0, and the number of cues or the index of the refused cue. */
+struct twin_answer {
+    uint32_t refusal, number;
+};
+
+struct twin_answer twin_read_book(const uint8_t *book, size_t book_len);
+
+/* Puts a place into the list if it has room, and counts it. */
+static inline void twin_report(struct twin_finding *found, uint32_t *restrict list, size_t list_len, size_t place)
+{
+    if (found->total < list_len)
+        list[found->total] = (uint32_t)place;
+    found->total++;
+}
+
+#endif
