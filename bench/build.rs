@@ -1,0 +1,61 @@
+//! Compiles the C twins in three builds that differ in the placement of code alone, and packs them into one archive. A define puts the build's name
+//! behind each function's, so that the three can be linked side by side and the C source stays plain.
+
+use std::env;
+use std::path::{Path, PathBuf};
+use std::process::Command;
+
+/// The builds and the options by which they differ: gcc's own placement, functions and loops on wide bounds, and no alignment at all.
+const BUILDS: [(&str, &[&str]); 3] = [
+    ("plain", &[]),
+    ("wide", &["-falign-functions=64", "-falign-loops=32", "-falign-jumps=32"]),
+    ("packed", &["-fno-align-functions", "-fno-align-loops", "-fno-align-jumps", "-fno-align-labels"]),
+];
+
+/// The files of `c/` and the function that each defines.
+const TWINS: [(&str, &str); 8] = [
+    ("naive", "twin_naive"),
+    ("kmp", "twin_kmp"),
+    ("horspool", "twin_horspool"),
+    ("sunday", "twin_sunday"),
+    ("fjs", "twin_fjs"),
+    ("double_window", "twin_double_window"),
+    ("memmem", "twin_memmem"),
+    ("cue_book", "twin_read_book"),
+];
+
+const OPTIONS: [&str; 6] = ["-std=c11", "-O3", "-Wall", "-Wextra", "-Werror", "-c"];
+
+fn main() {
+    let out = PathBuf::from(env::var_os("OUT_DIR").expect("cargo sets OUT_DIR"));
+    let objects: Vec<PathBuf> = BUILDS.iter().flat_map(|build| TWINS.iter().map(|twin| compile(build, twin, &out))).collect();
+    let archive = out.join("libtwins.a");
+    // An archive of an earlier build could hold objects that no longer exist; whether there was one does not matter.
+    let _ = std::fs::remove_file(&archive);
+    run(Command::new("ar").arg("crs").arg(&archive).args(&objects));
+
+    println!("cargo:rerun-if-changed=build.rs");
+    println!("cargo:rerun-if-changed=c");
+    println!("cargo:rustc-link-search=native={}", out.display());
+    println!("cargo:rustc-link-lib=static=twins");
+    println!("cargo:rustc-env=TWIN_COMPILER=gcc {}", printed("gcc", "-dumpfullversion"));
+    println!("cargo:rustc-env=REFERENCE_COMPILER={}", printed(&env::var("RUSTC").expect("cargo sets RUSTC"), "--version"));
+}
+
+fn compile((build, placement): &(&str, &[&str]), (file, function): &(&str, &str), out: &Path) -> PathBuf {
+    let object = out.join(format!("{file}_{build}.o"));
+    let rename = format!("-D{function}={function}_{build}");
+    run(Command::new("gcc").args(OPTIONS).args(*placement).arg(rename).arg(format!("c/{file}.c")).arg("-o").arg(&object));
+    object
+}
+
+fn run(command: &mut Command) {
+    let status = command.status().unwrap_or_else(|error| panic!("{command:?}: {error}"));
+    assert!(status.success(), "{command:?}: {status}");
+}
+
+/// The first line that a program prints for this argument.
+fn printed(program: &str, argument: &str) -> String {
+    let output = Command::new(program).arg(argument).output().unwrap_or_else(|error| panic!("{program}: {error}"));
+    String::from_utf8_lossy(&output.stdout).lines().next().unwrap_or_default().to_string()
+}

@@ -1,0 +1,96 @@
+//! The C twins behind safe calls, and the only unsafe code of this crate.
+//!
+//! A twin refuses nothing, so what the library would refuse is asserted here before the call.
+
+use crate::lent::Lent;
+use libretto::{Method, PHRASE_MAX, TEXT_MAX};
+
+/// What an engine's twin gives back.
+#[derive(Clone, Copy, Debug, PartialEq, Eq)]
+#[repr(C)]
+pub struct TwinFinding {
+    /// The number of all occurrences.
+    pub total: u32,
+    /// The letter comparisons made.
+    pub comparisons: u32,
+}
+
+/// What the book reader's twin gives back.
+#[derive(Clone, Copy, Debug, PartialEq, Eq)]
+#[repr(C)]
+pub struct TwinAnswer {
+    /// The refusal's number, or 0.
+    pub refusal: u32,
+    /// The number of cues, or the index of the refused cue.
+    pub number: u32,
+}
+
+type Find = unsafe extern "C" fn(*const u8, usize, *const u8, usize, *mut u16, *mut u32, usize) -> TwinFinding;
+type ReadBook = unsafe extern "C" fn(*const u8, usize) -> TwinAnswer;
+
+/// The twins compiled with one placement of code.
+pub struct Build {
+    finds: [Find; 6],
+    read_book: ReadBook,
+}
+
+/// Declares the functions of each build and lists the builds.
+macro_rules! builds {
+    ($($read_book:ident: $($find:ident)*;)*) => {
+        extern "C" {
+            $(
+                $(fn $find(phrase: *const u8, m: usize, text: *const u8, n: usize, scratch: *mut u16, list: *mut u32, list_len: usize) -> TwinFinding;)*
+                fn $read_book(book: *const u8, book_len: usize) -> TwinAnswer;
+            )*
+        }
+
+        /// The builds that `build.rs` makes. The best of them stands for C.
+        pub static BUILDS: [Build; 3] = [$(Build { finds: [$($find),*], read_book: $read_book }),*];
+    };
+}
+
+builds! {
+    twin_read_book_plain: twin_naive_plain twin_kmp_plain twin_horspool_plain twin_sunday_plain twin_fjs_plain twin_double_window_plain;
+    twin_read_book_wide: twin_naive_wide twin_kmp_wide twin_horspool_wide twin_sunday_wide twin_fjs_wide twin_double_window_wide;
+    twin_read_book_packed: twin_naive_packed twin_kmp_packed twin_horspool_packed twin_sunday_packed twin_fjs_packed twin_double_window_packed;
+}
+
+extern "C" {
+    fn twin_memmem_plain(phrase: *const u8, m: usize, text: *const u8, n: usize, list: *mut u32, list_len: usize) -> u32;
+}
+
+impl Build {
+    /// The find of this engine's twin, in the scratch and the list.
+    pub fn find(&self, method: Method, phrase: &[u8], text: &[u8], lent: &mut Lent) -> TwinFinding {
+        assert!((1..=PHRASE_MAX).contains(&phrase.len()) && text.len() <= TEXT_MAX);
+        assert!(lent.scratch.len() >= method.scratch_entries(phrase.len()));
+        // SAFETY: each pointer comes from a slice or a vector and stands beside its own length; the scratch's length is not passed on, and the twin
+        // writes as many entries as the assertion found there. The exclusive borrow of `lent` keeps scratch and list apart from each other and from
+        // phrase and text, and all borrows outlive the call, which keeps no pointer. `TwinFinding` has the layout of the C structure.
+        unsafe {
+            self.finds[method as usize](
+                phrase.as_ptr(),
+                phrase.len(),
+                text.as_ptr(),
+                text.len(),
+                lent.scratch.as_mut_ptr(),
+                lent.list.as_mut_ptr(),
+                lent.list.len(),
+            )
+        }
+    }
+
+    /// The book reader's twin.
+    pub fn read_book(&self, book: &[u8]) -> TwinAnswer {
+        // SAFETY: the pointer stands beside its slice's own length, and the borrow outlives the call, which keeps no pointer. The twin accepts any
+        // bytes. `TwinAnswer` has the layout of the C structure.
+        unsafe { (self.read_book)(book.as_ptr(), book.len()) }
+    }
+}
+
+/// Every place of the phrase by `memmem`, in the list; it gives the total.
+pub fn memmem(phrase: &[u8], text: &[u8], lent: &mut Lent) -> u32 {
+    assert!(!phrase.is_empty());
+    // SAFETY: as for `Build::find`; without a scratch, nothing is written but the list.
+    unsafe { twin_memmem_plain(phrase.as_ptr(), phrase.len(), text.as_ptr(), text.len(), lent.list.as_mut_ptr(), lent.list.len()) }
+}
