@@ -3,7 +3,7 @@
 use crate::lent::{Lent, LIST};
 use crate::random::Random;
 use crate::sides::Case;
-use crate::twins::{self, BUILDS};
+use crate::twins::{self, BUILDS, PLACEMENTS};
 use libretto::Method;
 
 /// Checks cases on dirty memory, which is the same for all sides.
@@ -42,6 +42,11 @@ impl Checker {
         self.library.clone_from(&self.dirt);
         let raw = libretto::find_raw(method.number(), phrase, text, &mut self.library.scratch, &mut self.library.list);
         let given = (raw.refusal, raw.total, raw.comparisons);
+        for (index, placement) in PLACEMENTS.iter().enumerate() {
+            self.other.clone_from(&self.dirt);
+            let found = placement.find(method, phrase, text, &mut self.other);
+            self.agree(&format!("{name}, {method}, placement {index}"), phrase, given, (found.refusal, found.total, found.comparisons));
+        }
         for (index, build) in BUILDS.iter().enumerate() {
             self.other.clone_from(&self.dirt);
             let found = build.find(method, phrase, text, &mut self.other);

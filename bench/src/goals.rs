@@ -21,6 +21,8 @@ pub struct EngineVerdict<'a> {
     pub method: Method,
     /// The geometric mean of its ratios.
     pub mean: f64,
+    /// The same where the linker placed the library in this program.
+    pub linked: f64,
     /// The class with the largest ratio.
     pub worst: &'a ClassResult,
     /// The classes above the limit, the worst first.
@@ -53,6 +55,7 @@ fn engine(results: &Results, method: Method) -> EngineVerdict<'_> {
     EngineVerdict {
         method,
         mean: geometric_mean(results.classes.iter().map(|class| ratio(class, method))),
+        linked: geometric_mean(results.classes.iter().map(|class| times(class).linked / times(class).twin)),
         worst: ranked[0],
         placement: geometric_mean(results.classes.iter().map(|class| times(class).worst_twin / times(class).twin)),
         above: ranked.into_iter().take_while(|class| ratio(class, method) > CLASS).collect(),

@@ -3,7 +3,7 @@
 use crate::clock::Side;
 use crate::lent::Lent;
 use crate::statistics::{largest, least};
-use crate::twins::{self, Build, BUILDS};
+use crate::twins::{self, Build, Placement, BUILDS, PLACEMENTS};
 use libretto::Method;
 use std::hint::black_box;
 
@@ -36,6 +36,15 @@ pub fn library<'a>(method: Method, case: &'a Case<'a>) -> Side<'a> {
     Side::new(move |lent| {
         case.each(|phrase, text| {
             black_box(libretto::find_raw(method.number(), phrase, text, &mut lent.scratch, &mut lent.list));
+        })
+    })
+}
+
+/// The library's side in one placement of its code.
+fn placed<'a>(placement: &'static Placement, method: Method, case: &'a Case<'a>) -> Side<'a> {
+    Side::new(move |lent| {
+        case.each(|phrase, text| {
+            black_box(placement.find(method, phrase, text, lent));
         })
     })
 }
@@ -73,15 +82,17 @@ fn references<'a>(method: Method, case: &'a Case<'a>) -> Vec<Side<'a>> {
 /// An engine's sides.
 pub struct EngineSides<'a> {
     library: Side<'a>,
+    placed: Vec<Side<'a>>,
     twins: Vec<Side<'a>>,
     references: Vec<Side<'a>>,
 }
 
 impl<'a> EngineSides<'a> {
-    /// The library and its twins.
+    /// The library, as the linker placed it and in other placements, and its twins.
     pub fn new(method: Method, case: &'a Case<'a>) -> EngineSides<'a> {
+        let placed = PLACEMENTS.iter().map(|placement| placed(placement, method, case)).collect();
         let twins = BUILDS.iter().map(|build| twin(build, method, case)).collect();
-        EngineSides { library: library(method, case), twins, references: Vec::new() }
+        EngineSides { library: library(method, case), placed, twins, references: Vec::new() }
     }
 
     /// The library, its twins and the reference.
@@ -91,13 +102,14 @@ impl<'a> EngineSides<'a> {
 
     /// All sides, the library beside its twins.
     pub fn all(&mut self) -> impl Iterator<Item = &mut Side<'a>> {
-        std::iter::once(&mut self.library).chain(&mut self.twins).chain(&mut self.references)
+        std::iter::once(&mut self.library).chain(&mut self.placed).chain(&mut self.twins).chain(&mut self.references)
     }
 
     /// The best times so far.
     pub fn times(&self) -> EngineTimes {
         EngineTimes {
-            library: self.library.best(),
+            library: least(self.placed.iter().map(Side::best)).min(self.library.best()),
+            linked: self.library.best(),
             twin: least(self.twins.iter().map(Side::best)),
             worst_twin: largest(self.twins.iter().map(Side::best)),
             reference: self.references.iter().map(Side::best).sum(),
@@ -108,8 +120,10 @@ impl<'a> EngineSides<'a> {
 /// An engine's times in nanoseconds, for all phrases in all texts of a case.
 #[derive(Clone, Copy, Debug)]
 pub struct EngineTimes {
-    /// The library.
+    /// The library in the best placement of its code.
     pub library: f64,
+    /// The library where the linker placed it in this program.
+    pub linked: f64,
     /// The best build of the C twin.
     pub twin: f64,
     /// The worst build of the C twin, which differs from the best in the placement of code alone.

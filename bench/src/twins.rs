@@ -1,9 +1,9 @@
-//! The C twins behind safe calls, and the only unsafe code of this crate.
+//! The C twins, and the library's find in other placements, behind safe calls; the only unsafe code of this crate.
 //!
 //! A twin refuses nothing, so what the library would refuse is asserted here before the call.
 
 use crate::lent::Lent;
-use libretto::{Method, PHRASE_MAX, TEXT_MAX};
+use libretto::{Method, RawFinding, PHRASE_MAX, TEXT_MAX};
 
 /// What an engine's twin gives back.
 #[derive(Clone, Copy, Debug, PartialEq, Eq)]
@@ -53,6 +53,57 @@ builds! {
     twin_read_book_plain: twin_naive_plain twin_kmp_plain twin_horspool_plain twin_sunday_plain twin_fjs_plain twin_double_window_plain;
     twin_read_book_wide: twin_naive_wide twin_kmp_wide twin_horspool_wide twin_sunday_wide twin_fjs_wide twin_double_window_wide;
     twin_read_book_packed: twin_naive_packed twin_kmp_packed twin_horspool_packed twin_sunday_packed twin_fjs_packed twin_double_window_packed;
+}
+
+type LibraryFind = unsafe extern "C" fn(u32, *const u8, usize, *const u8, usize, *mut u16, usize, *mut u32, usize) -> RawFinding;
+
+/// Declares the copies of the library's find and lists them.
+macro_rules! placements {
+    ($($find:ident)*) => {
+        extern "C" {
+            $(fn $find(
+                method: u32,
+                phrase: *const u8,
+                m: usize,
+                text: *const u8,
+                n: usize,
+                scratch: *mut u16,
+                scratch_len: usize,
+                list: *mut u32,
+                list_len: usize,
+            ) -> RawFinding;)*
+        }
+
+        /// The copies that `build.rs` makes, which differ in where they lie alone.
+        pub static PLACEMENTS: [Placement; 4] = [$(Placement($find)),*];
+    };
+}
+
+placements! { libretto_find_0 libretto_find_16 libretto_find_32 libretto_find_48 }
+
+/// The library's find in one placement.
+pub struct Placement(LibraryFind);
+
+impl Placement {
+    /// The library's find.
+    pub fn find(&self, method: Method, phrase: &[u8], text: &[u8], lent: &mut Lent) -> RawFinding {
+        // SAFETY: each pointer comes from a slice or a vector and stands beside its own length. The exclusive borrow of `lent` keeps scratch and list
+        // apart from each other and from phrase and text, and all borrows outlive the call, which keeps no pointer. The library accepts any input.
+        // `RawFinding` has the layout of the C structure.
+        unsafe {
+            (self.0)(
+                method.number(),
+                phrase.as_ptr(),
+                phrase.len(),
+                text.as_ptr(),
+                text.len(),
+                lent.scratch.as_mut_ptr(),
+                lent.scratch.len(),
+                lent.list.as_mut_ptr(),
+                lent.list.len(),
+            )
+        }
+    }
 }
 
 extern "C" {
