@@ -79,12 +79,13 @@ pub fn compare_down(pattern: &[u8], text: &[u8], start: usize, count: usize) -> 
     if text.len() - count < start {
         return 0;
     }
-    let mut k = count;
-    while 0 < k {
-        if pattern[k - 1] != text[start + (k - 1)] {
-            return count - k;
+    let mut equal = 0;
+    while equal < count {
+        let k = count - equal - 1;
+        if pattern[k] != text[start + k] {
+            return equal;
         }
-        k -= 1;
+        equal += 1;
     }
     count
 }
