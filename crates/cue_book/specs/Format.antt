@@ -10,6 +10,7 @@ pub record Cue : Type 0 where
   pub ordinal : ℕ
   pub title : List ℕ
 
+-- the cue of these three
 abbrev pub cueWith : List ℕ → ℕ → List ℕ → Cue
 cueWith phrase ordinal title = record { phrase = phrase; ordinal = ordinal; title = title }
 
