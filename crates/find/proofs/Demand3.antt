@@ -24,7 +24,7 @@ method-4-bounded {P} {T} {scratch} a z h =
     let limits = within (length P) (length T) (length scratch) _ (found-none (a .found (omega arith)) z) in
     omega (arith, method-4-exact a z, bound P T (limits .some) h)
 
-pub method-4-aba : (a b n : ℕ) → (a ≡ b → ⊥) → 3 ≤ n → n ≤ 32768 → {scratch list : List ℕ} → 260 ≤ length scratch → {r : Finding} {scratch′ list′ : List ℕ}
-    → Answered 4 (aba a b) (replicate n a) scratch list r scratch′ list′ → r .comparisons ≡ 3 * n - 6
+pub method-4-aba : (a b n : ℕ) → (a ≡ b → ⊥) → 3 ≤ n → {scratch list : List ℕ} {r : Finding} {scratch′ list′ : List ℕ} → Answered 4 (aba a b) (replicate n a) scratch list r scratch′ list′ → r .refusal ≡ 0
+    → r .comparisons ≡ 3 * n - 6
 unfolding engineOf
-method-4-aba a b n differ h k room answered = aba-found a b differ n h k room (answered .found (omega arith))
+method-4-aba a b n differ h answered z = aba-found a b differ n h (answered .found (omega arith)) z

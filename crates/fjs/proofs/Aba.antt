@@ -12,10 +12,10 @@ use Rattle.matching.specs.declared.Finding.{Finding}
 use Rattle.matching.specs.Occurrences.{same}
 use Rattle.matching.specs.Letters.{reach}
 use Rattle.matching.specs.Machine.{at, windows, runFrom, comparedIn}
-use Rattle.matching.specs.Find.{compared, refusalOf, Found}
+use Rattle.matching.specs.Find.{compared, Found}
 use Rattle.matching.proofs.Letters.{reach-first, reach-unequal}
 use Rattle.matching.proofs.Machine.{windows-on, windows-off}
-use Rattle.matching.proofs.Find.{none-refused, found-answer}
+use Rattle.matching.proofs.Find.{found-answer, found-none}
 use Rattle.shifts.specs.Tables.{largest}
 use Rattle.shifts.specs.Kmp.{border, strong, kmpEntry}
 use Rattle.shifts.proofs.Moves.{kmp-next}
@@ -60,9 +60,6 @@ module _ (a b : ℕ) (differ : a ≡ b → ⊥) where
     unfolding compared runFrom
     aba-costs h = left (n - 2) (suc (length (replicate n a))) 0 (omega arith) (omega (arith, length-replicate n a)) ∙ omega arith
 
-    pub aba-found : 3 ≤ n → n ≤ 32768 → {scratch list : List ℕ} → 260 ≤ length scratch → {r : Finding} {scratch′ list′ : List ℕ} → Found fjs (aba a b) (replicate n a) scratch list r scratch′ list′
+    pub aba-found : 3 ≤ n → {scratch list : List ℕ} {r : Finding} {scratch′ list′ : List ℕ} → Found fjs (aba a b) (replicate n a) scratch list r scratch′ list′ → r .refusal ≡ 0
         → r .comparisons ≡ 3 * n - 6
-    aba-found h k {scratch} room found =
-        let long : length (replicate n a) ≡ n = length-replicate n a in
-        let none : refusalOf fjs (aba a b) (replicate n a) scratch ≡ 0 = none-refused 3 (length (replicate n a)) (length scratch) 260 (record { some = omega arith; short = omega arith; small = omega arith; room = room }) in
-        ap (λ (r : Finding). r .comparisons) (found-answer found none) ∙ aba-costs h
+    aba-found h found z = ap (λ (r : Finding). r .comparisons) (found-answer found (found-none found z)) ∙ aba-costs h

@@ -1,17 +1,22 @@
--- What `Found` asks of a refused find, and of one that is not refused; and the limits that hold where a find is not refused. For any engine. Assumes nothing.
+-- What `Found` asks of a refused find, and of one that is not refused; the limits that hold where a find is not refused; and a pattern longer than the text. For any engine.
+-- Assumes nothing.
 use mathlib.Core.Path.{_≡_, _∙_, sym, ap}
-use Prim.Native.Nat.{ℕ, _≤_}
+use Prim.Native.Nat.{ℕ, suc, _≤_, _<_}
 use native.Mathlib.Omega.{arith}
 use mathlib.Core.Bool.{true, false, cond}
-use mathlib.Core.List.{List, _++_}
+use mathlib.Core.List.{List, [], _++_}
 use lib.ListN.{length, drop}
 use lib.Dec.{eqb, ltb}
 use borrow.Author.Tests.{eqb-true, eq-eqb, ne-eqb, eqb-false, ltb-false, le-ltb}
 use Rattle.matching.specs.declared.Finding.{Finding}
 use Rattle.matching.specs.Occurrences.{occurrences}
 use Rattle.matching.specs.Received.{received}
+use Rattle.matching.specs.Machine.{runFrom, comparedIn}
 use Rattle.matching.specs.Find.{refusal, Engine, compared, refusalOf, Found}
 use Rattle.matching.proofs.Tests.{by-test}
+use Rattle.matching.proofs.Received.{received-none}
+use Rattle.matching.proofs.Occurrences.{occurrences-none}
+use Rattle.matching.proofs.Machine.{windows-off}
 
 -- the limits that a find keeps where it does not refuse
 pub record Within (m n has needs : ℕ) : Type 0 where
@@ -42,6 +47,17 @@ within m n has needs e =
 pub none-refused : (m n has needs : ℕ) → Within m n has needs → refusal m n has needs ≡ 0
 unfolding refusal
 none-refused m n has needs w = rw (ne-eqb m 0 (λ e. omega (arith, w .some)), le-ltb 1024 m (w .short), le-ltb 32768 n (w .small), le-ltb has needs (w .room))
+
+-- a pattern longer than the text, of any lengths: no window lies in the text, so no engine compares a pair
+pub longer-costs : (e : Engine) (P T : List ℕ) → length T < length P → compared e P T ≡ 0
+unfolding compared runFrom comparedIn
+longer-costs e P T h = ap comparedIn (windows-off (suc (length T)) (e .steps) P T 0 0 (omega arith))
+
+-- total 0 and comparisons 0, the list as before, and the tables filled all the same
+pub record Longer (e : Engine) (P scratch list : List ℕ) (r : Finding) (scratch′ list′ : List ℕ) : Type 0 where
+  pub answer : r ≡ record { refusal = 0; total = 0; comparisons = 0 }
+  pub left : scratch′ ≡ e .tables P ++ drop (e .entries (length P)) scratch
+  pub listed : list′ ≡ list
 
 module _ {e : Engine} {P T scratch list : List ℕ} where
   -- a refusal leaves all as before
@@ -77,6 +93,9 @@ module _ {e : Engine} {P T scratch list : List ℕ} where
     pub found-listed : list′ ≡ received list (occurrences P T)
     found-listed = f .listed ∙ rw on
 
+    pub found-left : scratch′ ≡ e .tables P ++ drop (e .entries (length P)) scratch
+    found-left = f .left ∙ rw on
+
   -- a find that returns no refusal met none
   pub found-none : {r : Finding} {scratch′ list′ : List ℕ} → Found e P T scratch list r scratch′ list′ → r .refusal ≡ 0 → refusalOf e P T scratch ≡ 0
   found-none {r} f z =
@@ -85,3 +104,13 @@ module _ {e : Engine} {P T scratch list : List ℕ} where
       (λ t.
       let is : r ≡ record { refusal = refusalOf e P T scratch; total = 0; comparisons = 0 } = f .answer ∙ rw t in
       sym (ap (λ (x : Finding). x .refusal) is) ∙ z)
+
+  -- a find of a pattern longer than the text that is not refused
+  pub found-longer : {r : Finding} {scratch′ list′ : List ℕ} → Found e P T scratch list r scratch′ list′ → r .refusal ≡ 0 → length T < length P → Longer e P scratch list r scratch′ list′
+  found-longer f z h =
+      let none = found-none f z in
+      record {
+        answer = found-answer f none ∙ rw (occurrences-none P T h, longer-costs e P T h);
+        left = found-left f none;
+        listed = found-listed f none ∙ ap (received list) (occurrences-none P T h) ∙ received-none list;
+      }

@@ -3,6 +3,7 @@
 use mathlib.Core.Path.{_≡_, refl, sym, ap, ap₂, _∙_}
 use Prim.Native.Nat.{ℕ, zero, suc, _+_, _-_, _≤_, _<_}
 use native.Mathlib.Omega.{arith}
+use native.Mathlib.Nat.{sub-zero}
 use mathlib.Core.Logic.{_⊎_, ⊎-elim}
 use mathlib.Core.Bool.{true, false, cond, _&&_, false≢true}
 use mathlib.Core.List.{List, [], _∷_, List·Memᴰ, List·Memᴰ·head, List·Memᴰ·tail, List·Memᴰ·cases-cons, List·Memᴰ·not-nil}
@@ -84,6 +85,11 @@ rest-none P T s none = rest-skip P T (suc (length T)) s (λ j a _. none j a) ∙
 
 pub rest-past : (P T : List ℕ) (s : ℕ) → 1 ≤ length P → length T < s + length P → rest P T s ≡ []
 rest-past P T s h l = rest-none P T s (λ j a. no-occurrence P T j h (λ st. omega (arith, st .inside)))
+
+-- a pattern longer than the text stands nowhere
+pub occurrences-none : (P T : List ℕ) → length T < length P → occurrences P T ≡ []
+unfolding occurrences
+occurrences-none P T h = ap (λ (c : ℕ). occursFrom c P T 0) (sym (sub-zero (suc (length T)))) ∙ rest-past P T 0 (omega arith) (omega arith)
 
 few : (c : ℕ) (P T : List ℕ) (k : ℕ) → length (occursFrom c P T k) ≤ c
 unfolding occursFrom
