@@ -5,17 +5,18 @@ use native.Mathlib.Omega.{arith}
 use native.Mathlib.Numerals.{add-one}
 use mathlib.Core.Bool.{true, false, cond}
 use mathlib.Core.List.{List, [], _∷_, _++_, append-nil}
-use lib.ListN.{length, take, drop, length-drop, length-append}
-use lib.Seq.{drop-drop}
+use lib.ListN.{length, getD, take, drop, length-drop, length-append}
+use lib.Seq.{drop-drop, getD-append-seam}
 use lib.Dec.{eqb, ltb}
 use borrow.Author.Tests.{eq-eqb, ne-eqb, eqb-true, eqb-false, lt-ltb, le-ltb, ltb-true, ltb-false}
 use Rattle.matching.proofs.Tests.{by-test}
 use Rattle.cue_fields.specs.Field.{fieldLength, fieldSize, fieldBody}
+use Rattle.cue_book.specs.declared.CueAnswer.{CueAnswer}
 use Rattle.cue_book.specs.declared.Part.{Part}
 use Rattle.cue_book.specs.Format.{Cue}
 use Rattle.cue_book.specs.Reading.{afterPhrase, afterOrdinal, afterCue, cueRefusal, cueSize, cueOf, Reading, refused, cues, followed, readUpTo, readBook, refusalOf, numberOf, cuesIn, titleAt}
-use Rattle.cue_book.specs.Places.{titleStart, cuePlace, titleIn, front, titlePart}
-use Rattle.cue_book.proofs.Cues.{cued, CueAt}
+use Rattle.cue_book.specs.Places.{cueEnd, titleStart, cueAt, CueRead, cuePlace, CueBack, titleIn, front, titlePart, TitlePlaced}
+use Rattle.cue_book.proofs.Cues.{cue-most, cued, CueAt}
 
 -- ---- reading on from here, by its cases
 
@@ -117,20 +118,20 @@ ends (suc more) index rest e =
     not-followed (refused number index) e = not-both e
     not-followed (cues cs) e = not-empty (sym e)
 
--- a refused book's number is not 0
-pub refused-number : (more index : ℕ) (rest : List ℕ) {number at : ℕ} → readUpTo more index rest ≡ refused number at → number ≡ 0 → ⊥
-refused-number zero index rest {number} e z =
-    by-test (λ _. ⊥) (eqb (length rest) 0)
+-- a refused book's number is not 0, and is at most 10
+pub refused-number : (more index : ℕ) (rest : List ℕ) {number at : ℕ} → readUpTo more index rest ≡ refused number at → (1 ≤ number) × (number ≤ 10)
+refused-number zero index rest {number} e =
+    by-test (λ _. (1 ≤ number) × (number ≤ 10)) (eqb (length rest) 0)
     (λ t. not-both (sym e ∙ read-end zero index rest (eqb-true (length rest) 0 t)))
-    (λ t. omega (arith, ap refusalOf (sym (read-over index rest (eqb-false (length rest) 0 t)) ∙ e)))
-refused-number (suc more) index rest {number} {at} e z =
-    by-test (λ _. ⊥) (eqb (length rest) 0)
+    (λ t. let is = ap refusalOf (sym (read-over index rest (eqb-false (length rest) 0 t)) ∙ e) in (omega (arith, is), omega (arith, is)))
+refused-number (suc more) index rest {number} {at} e =
+    by-test (λ _. (1 ≤ number) × (number ≤ 10)) (eqb (length rest) 0)
     (λ t. not-both (sym e ∙ read-end (suc more) index rest (eqb-true (length rest) 0 t)))
     (λ t.
     let some = eqb-false (length rest) 0 t in
-    by-test (λ _. ⊥) (eqb (cueRefusal rest) 0)
-    (λ u. refused-number more (suc index) (afterCue rest) (later-refused (readUpTo more (suc index) (afterCue rest)) (sym (read-next more index rest some (eqb-true (cueRefusal rest) 0 u)) ∙ e)) z)
-    (λ u. let s = eqb-false (cueRefusal rest) 0 u in omega (arith, s, ap refusalOf (sym (read-refused more index rest some refl s) ∙ e))))
+    by-test (λ _. (1 ≤ number) × (number ≤ 10)) (eqb (cueRefusal rest) 0)
+    (λ u. refused-number more (suc index) (afterCue rest) (later-refused (readUpTo more (suc index) (afterCue rest)) (sym (read-next more index rest some (eqb-true (cueRefusal rest) 0 u)) ∙ e)))
+    (λ u. let s = eqb-false (cueRefusal rest) 0 u in let is = ap refusalOf (sym (read-refused more index rest some refl s) ∙ e) in (omega (arith, s, is), omega (arith, cue-most rest, is))))
   where
     later-refused : (r : Reading) → followed (cueOf rest) r ≡ refused number at → r ≡ refused number at
     later-refused (refused n i) e = e
@@ -144,12 +145,23 @@ refused-book book = by-reading (readBook book)
     by-reading (refused number index) some = refl
     by-reading (cues cs) some = absurd (some refl)
 
+pub book-most : (book : List ℕ) → refusalOf (readBook book) ≤ 10
+unfolding readBook
+book-most book = by-reading (readBook book) refl
+  where
+    by-reading : (r : Reading) → readBook book ≡ r → refusalOf r ≤ 10
+    by-reading (refused number index) e = refused-number 999 0 book e .1
+    by-reading (cues cs) e = omega arith
+
 pub accepted-book : (book : List ℕ) → refusalOf (readBook book) ≡ 0 → (readBook book ≡ cues (cuesIn (readBook book))) × (numberOf (readBook book) ≡ length (cuesIn (readBook book)))
 unfolding readBook
 accepted-book book z = by-reading (readBook book) refl
   where
     by-reading : (r : Reading) → readBook book ≡ r → (readBook book ≡ cues (cuesIn (readBook book))) × (numberOf (readBook book) ≡ length (cuesIn (readBook book)))
-    by-reading (refused number index) e = absurd (refused-number 999 0 book e (sym (ap refusalOf e) ∙ z))
+    by-reading (refused number index) e =
+        let some : 1 ≤ number = refused-number 999 0 book e .0 in
+        let none : number ≡ 0 = sym (ap refusalOf e) ∙ z in
+        absurd (omega arith)
     by-reading (cues cs) e = (e ∙ ap (λ (r : Reading). cues (cuesIn r)) (sym e), ap numberOf e ∙ ap (λ (r : Reading). length (cuesIn r)) (sym e))
 
 -- ---- where cues and titles stand
@@ -164,7 +176,7 @@ pub after-at-cue : (book : List ℕ) (place : ℕ) → drop (place + cueSize (dr
 after-at-cue book place = sym (drop-drop (cueSize (drop place book)) place book) ∙ after-cue (drop place book)
 
 -- the first cue left out, the others stand where they did
-place-next : (rest : List ℕ) (k : ℕ) → cuePlace rest (suc k) ≡ cueSize rest + cuePlace (afterCue rest) k
+pub place-next : (rest : List ℕ) (k : ℕ) → cuePlace rest (suc k) ≡ cueSize rest + cuePlace (afterCue rest) k
 unfolding cuePlace
 place-next rest zero = omega arith
 place-next rest (suc k) =
@@ -177,13 +189,58 @@ place-next rest (suc k) =
 pub left-next : (rest : List ℕ) (k : ℕ) → drop (cuePlace rest (suc k)) rest ≡ drop (cuePlace (afterCue rest) k) (afterCue rest)
 left-next rest k = ap (λ (n : ℕ). drop n rest) (place-next rest k) ∙ sym (drop-drop (cuePlace (afterCue rest) k) (cueSize rest) rest) ∙ ap (λ (l : List ℕ). drop (cuePlace (afterCue rest) k) l) (after-cue rest)
 
-pub title-there : (k more index : ℕ) (rest : List ℕ) (cs : List Cue) → readUpTo more index rest ≡ cues cs → k < length cs → fieldBody (afterOrdinal (drop (cuePlace rest k) rest)) ≡ titleAt cs k
-unfolding titleAt cuePlace cueOf
-title-there k more index rest [] e h = absurd (omega arith)
-title-there zero more index rest (c ∷ cs) e h = ap (λ (d : Cue). d .title) (begins more index rest c cs e .cue)
-title-there (suc k) more index rest (c ∷ cs) e h =
+-- at the place of a cue that was read, that cue is read
+pub record There (rest : List ℕ) (k : ℕ) (c : Cue) : Type 0 where
+  pub none : cueRefusal (drop (cuePlace rest k) rest) ≡ 0
+  pub value : cueOf (drop (cuePlace rest k) rest) ≡ c
+
+pub there : (k more index : ℕ) (rest : List ℕ) (cs : List Cue) (d : Cue) → readUpTo more index rest ≡ cues cs → k < length cs → There rest k (getD cs k d)
+unfolding cuePlace
+there k more index rest [] d e h = absurd (omega arith)
+there zero more index rest (c ∷ cs) d e h = let b = begins more index rest c cs e in record { none = b .none; value = b .cue }
+there (suc k) more index rest (c ∷ cs) d e h =
     let b = begins more index rest c cs e in
-    ap (λ (l : List ℕ). fieldBody (afterOrdinal l)) (left-next rest k) ∙ title-there k (b .fewer) (suc index) (afterCue rest) cs (b .then) (omega arith)
+    let t = there k (b .fewer) (suc index) (afterCue rest) cs d (b .then) (omega arith) in
+    record { none = ap cueRefusal (left-next rest k) ∙ t .none; value = ap cueOf (left-next rest k) ∙ t .value }
+
+-- so it lies in the book
+there-inside : {rest : List ℕ} {k : ℕ} {c : Cue} → There rest k c → cuePlace rest k + cueSize (drop (cuePlace rest k) rest) ≤ length rest
+there-inside {rest} {k} t = omega (arith, cue-inside (drop (cuePlace rest k) rest) (t .none), length-drop (cuePlace rest k) rest)
+
+-- `read_cue` at the place of an accepted book's cue gives that cue, whole, and ends where the next one begins
+pub cue-there : (book : List ℕ) (before : List Cue) (c : Cue) (later : List Cue) → readBook book ≡ cues (before ++ c ∷ later) → {r : CueAnswer}
+    → CueRead book (cuePlace book (length before)) r → CueBack book (length before) c r
+unfolding readBook cueAt cuePlace
+cue-there book before c later e {r} read =
+    let k : ℕ = length before in
+    let rest : List ℕ = drop (cuePlace book k) book in
+    let short : k < length (before ++ c ∷ later) = omega (arith, length-append before (c ∷ later)) in
+    let t = there k 999 0 book (before ++ c ∷ later) c e short in
+    let on = eq-eqb (cueRefusal rest) 0 (t .none) in
+    record {
+      number = read .number ∙ t .none;
+      meant = read .meant ∙ rw on (ap (λ (d : Cue). d ∷ []) (t .value ∙ getD-append-seam before c later c));
+      next = ap cueEnd (read .answer) ∙ rw on;
+    }
+
+-- the last cue ends where the book does
+pub place-end : (more index : ℕ) (rest : List ℕ) (cs : List Cue) → readUpTo more index rest ≡ cues cs → cuePlace rest (length cs) ≡ length rest
+unfolding cuePlace
+place-end more index rest [] e = sym (ends more index rest e)
+place-end more index rest (c ∷ cs) e =
+    let b = begins more index rest c cs e in
+    let size : length (afterCue rest) ≡ length rest - cueSize rest = ap length (sym (after-cue rest)) ∙ length-drop (cueSize rest) rest in
+    omega (arith, place-next rest (length cs), place-end (b .fewer) (suc index) (afterCue rest) cs (b .then), cue-inside rest (b .none), size)
+
+title-of : (cs : List Cue) (k : ℕ) (d : Cue) → k < length cs → getD cs k d .title ≡ titleAt cs k
+unfolding titleAt
+title-of [] k d h = absurd (omega arith)
+title-of (c ∷ cs) zero d h = refl
+title-of (c ∷ cs) (suc k) d h = title-of cs k d (omega arith)
+
+title-there : {rest : List ℕ} {k : ℕ} {c : Cue} → There rest k c → fieldBody (afterOrdinal (drop (cuePlace rest k) rest)) ≡ c .title
+unfolding cueOf
+title-there t = ap (λ (d : Cue). d .title) (t .value)
 
 -- the title's part of the book
 pub title-part : (book : List ℕ) (k : ℕ) → let p = titleIn book k in take (p .len) (drop (p .start) book) ≡ fieldBody (afterOrdinal (drop (cuePlace book k) book))
@@ -320,16 +377,6 @@ title-past [] k h = refl
 title-past (c ∷ cs) zero h = absurd (omega arith)
 title-past (c ∷ cs) (suc k) h = title-past cs k (omega arith)
 
--- a cue of an accepted book lies in it
-place-inside : (k more index : ℕ) (rest : List ℕ) (cs : List Cue) → readUpTo more index rest ≡ cues cs → k < length cs → cuePlace rest k + cueSize (drop (cuePlace rest k) rest) ≤ length rest
-unfolding cuePlace
-place-inside k more index rest [] e h = absurd (omega arith)
-place-inside zero more index rest (c ∷ cs) e h = omega (arith, cue-inside rest (begins more index rest c cs e .none))
-place-inside (suc k) more index rest (c ∷ cs) e h =
-    let b = begins more index rest c cs e in
-    let size : length (afterCue rest) ≡ length rest - cueSize rest = ap length (sym (after-cue rest)) ∙ length-drop (cueSize rest) rest in
-    omega (arith, place-next rest k, ap cueSize (left-next rest k), place-inside k (b .fewer) (suc index) (afterCue rest) cs (b .then) (omega arith), cue-inside rest (b .none), size)
-
 -- the part that is shown lies in the book, and holds the title
 pub record Shows (book : List ℕ) (k : ℕ) (p : Part) : Type 0 where
   pub inside : p .start + p .len ≤ length book
@@ -342,5 +389,11 @@ title-shows book k =
     (λ t.
     let h = ltb-true k (length (cuesIn (readBook book))) t in
     let e : readUpTo 999 0 book ≡ cues (cuesIn (readBook book)) = some-cues (readBook book) h in
-    record { inside = omega (arith, place-inside k 999 0 book (cuesIn (readBook book)) e h); holds = title-part book k ∙ title-there k 999 0 book (cuesIn (readBook book)) e h })
+    let d : Cue = cueOf book in
+    let t = there k 999 0 book (cuesIn (readBook book)) d e h in
+    record { inside = omega (arith, there-inside t); holds = title-part book k ∙ title-there t ∙ title-of (cuesIn (readBook book)) k d h })
     (λ t. record { inside = omega arith; holds = sym (title-past (cuesIn (readBook book)) k (ltb-false k (length (cuesIn (readBook book))) t)) })
+
+-- the part of a title that was placed lies in the book
+pub placed-inside : {book : List ℕ} {k : ℕ} {r : Part} → TitlePlaced book k r → r .start + r .len ≤ length book
+placed-inside {book} {k} p = omega (arith, ap (λ (q : Part). q .start) (p .answer), ap (λ (q : Part). q .len) (p .answer), title-shows book k .inside)

@@ -3,20 +3,21 @@ use mathlib.Core.Path.{_≡_, refl, sym, ap, ap₂, _∙_}
 use Prim.Native.Nat.{ℕ, _+_, _-_, _≤_}
 use native.Mathlib.Omega.{arith}
 use mathlib.Core.List.{List, [], _∷_}
-use lib.ListN.{length, take, drop, length-drop}
+use lib.ListN.{length, drop, length-drop}
 use lib.Dec.{eqb, leb}
 use denote.Enum.Declared as declared
 use borrow.Author.Tests.{eq-eqb, ne-eqb, eqb-true, eqb-false, leb-true}
-use Rattle.matching.proofs.Tests.{by-test, both}
+use Rattle.matching.proofs.Tests.{by-test, both, cond-most}
 use Rattle.cue_fields.specs.declared.Due.the-variants.{Phrase, Ordinal, Title}
-use Rattle.cue_fields.specs.Field.{numberIn, fieldLength, fieldSize, fieldBody, afterField, fieldRefusal}
-use Rattle.cue_fields.proofs.Fielded.{Fielded, fielded, field-fine, BodyAt, told-apart, after-field, after-at, ordinal-number}
+use Rattle.cue_fields.specs.Field.{numberIn, fieldLength, fieldSize, fieldBody, afterField, fieldRefusal, part}
+use Rattle.cue_fields.proofs.Fields.{after-field, field-most}
+use Rattle.cue_fields.proofs.Fielded.{Fielded, fielded, field-fine, BodyAt, told-apart, firstOf, after-at, ordinal-number}
 use Rattle.cue_book.specs.declared.CueAnswer.{CueAnswer}
 use Rattle.cue_book.specs.declared.CueAnswer.the-variants as answer
 use Rattle.cue_book.proofs.CueAnswer as answers
 use Rattle.cue_book.specs.Format.{Cue, cueWith}
 use Rattle.cue_book.specs.Reading.{afterPhrase, afterOrdinal, cueRefusal, cueSize, cueOf}
-use Rattle.cue_book.specs.Places.{part, cueNumber, cuesMeant, titleStart, cueAt, CueRead}
+use Rattle.cue_book.specs.Places.{cueNumber, cueEnd, cuesMeant, titleStart, cueAt, CueRead}
 
 -- ---- the refusal of a cue by its cases
 
@@ -32,6 +33,10 @@ module _ (rest : List ℕ) where
   pub cue-third : fieldRefusal Phrase rest ≡ 0 → fieldRefusal Ordinal (afterPhrase rest) ≡ 0 → cueRefusal rest ≡ fieldRefusal Title (afterOrdinal rest)
   unfolding cueRefusal
   cue-third p o = rw (eq-eqb (fieldRefusal Phrase rest) 0 p, eq-eqb (fieldRefusal Ordinal (afterPhrase rest)) 0 o)
+
+  pub cue-most : cueRefusal rest ≤ 9
+  unfolding cueRefusal
+  cue-most = cond-most (eqb (fieldRefusal Phrase rest) 0) (cond-most (eqb (fieldRefusal Ordinal (afterPhrase rest)) 0) (field-most Title (afterOrdinal rest)) (field-most Ordinal (afterPhrase rest))) (field-most Phrase rest)
 
   -- a cue that is read: its three fields are
   pub record Cued : Type 0 where
@@ -58,12 +63,6 @@ module _ (rest : List ℕ) where
 -- ---- where a cue stands in the book
 
 module _ (book : List ℕ) (place : ℕ) where
-  -- the body of a field that starts there
-  pub body-part : (n : ℕ) → part book (place + 3) (place + (3 + n)) ≡ take n (drop 3 (drop place book))
-  body-part n =
-      let e : place + (3 + n) - (place + 3) ≡ n = omega arith in
-      ap₂ (λ (k : ℕ) (l : List ℕ). take k l) e (after-field book place 3)
-
   pub cue-refused : {number : ℕ} → cueRefusal (drop place book) ≡ number → (number ≡ 0 → ⊥) → CueRead book place (answer.Refused number)
   unfolding cueAt
   cue-refused e some =
@@ -95,13 +94,10 @@ module _ {book : List ℕ} {place phrase phrase-end body ordinal-end : ℕ} (p :
       e ∙ ap numberIn (ap (λ (k : ℕ). drop k book) (o .start-is) ∙ after-field book phrase-end 3 ∙ ap (λ (l : List ℕ). drop 3 l) at-ordinal) ∙ sym (ordinal-number named) in
       let start : title ≡ place + titleStart (drop place book) = omega (arith, p .end-is, o .end-is, t .start-is, ap fieldSize at-ordinal) in
       let ends : end ≡ place + cueSize (drop place book) = omega (arith, p .end-is, o .end-is, t .end-is, ap fieldSize at-ordinal, ap fieldSize at-title) in
-      let shown : part book title end ≡ fieldBody (afterOrdinal (drop place book)) =
-      ap₂ (λ (x y : ℕ). part book x y) (t .start-is) (t .end-is) ∙ body-part book ordinal-end (fieldLength (drop ordinal-end book)) ∙ ap fieldBody at-title in
-      let letters : part book phrase phrase-end ≡ fieldBody (drop place book) = ap₂ (λ (x y : ℕ). part book x y) (p .start-is) (p .end-is) ∙ body-part book place (fieldLength (drop place book)) in
       record {
         answer = rw on (ap-cue (p .start-is) (p .end-is) number start ends);
         number = sym none;
-        meant = rw on (ap (λ (c : Cue). c ∷ []) (same-cue letters number shown));
+        meant = rw on (ap (λ (c : Cue). c ∷ []) (same-cue (p .body) number (t .body ∙ ap fieldBody at-title)));
       }
     where
       ap-cue : {a a′ b b′ c c′ d d′ f f′ : ℕ} → a ≡ a′ → b ≡ b′ → c ≡ c′ → d ≡ d′ → f ≡ f′ → answer.Cue a b c d f ≡ answer.Cue a′ b′ c′ d′ f′
@@ -131,17 +127,9 @@ titleOf : CueAnswer → ℕ
 titleOf (answer.Cue phrase phrase-end ordinal title end) = title
 titleOf (answer.Refused number) = 0
 
-cueEnd : CueAnswer → ℕ
-cueEnd (answer.Cue phrase phrase-end ordinal title end) = end
-cueEnd (answer.Refused number) = 0
-
-firstOf : Cue → List Cue → Cue
-firstOf d [] = d
-firstOf d (c ∷ cs) = c
-
 module _ {book : List ℕ} {place : ℕ} {r : CueAnswer} (read : CueRead book place r) where
   pub cue-at : {phrase phrase-end ordinal title end : ℕ} → r ≡ answer.Cue phrase phrase-end ordinal title end → CueAt book place phrase phrase-end ordinal title end
-  unfolding cueAt phraseOf phraseEnd titleOf cueEnd firstOf
+  unfolding cueAt phraseOf phraseEnd titleOf firstOf
   cue-at {phrase} {phrase-end} {ordinal} {title} {end} e =
       let none : cueRefusal (drop place book) ≡ 0 = sym (read .number) ∙ ap cueNumber e in
       let on = eq-eqb (cueRefusal (drop place book)) 0 none in

@@ -1,11 +1,12 @@
 -- Where cues and titles stand in a book, and what the reading functions promise.
 use mathlib.Core.Path.{_≡_}
-use Prim.Native.Nat.{ℕ, zero, suc, _+_, _-_}
+use Prim.Native.Nat.{ℕ, zero, suc, _+_}
 use mathlib.Core.Bool.{cond}
 use mathlib.Core.List.{List, [], _∷_}
 use lib.ListN.{length, take, drop}
 use lib.Dec.{eqb, ltb}
-use Rattle.cue_fields.specs.Field.{numberIn, fieldLength, fieldSize, fieldBody}
+use denote.Ref.{RefT}
+use Rattle.cue_fields.specs.Field.{numberIn, fieldLength, fieldSize, fieldBody, part}
 use Rattle.cue_book.specs.declared.CueAnswer.{CueAnswer}
 use Rattle.cue_book.specs.declared.CueAnswer.the-variants as entry
 use Rattle.cue_book.specs.declared.Answer.{Answer}
@@ -13,16 +14,17 @@ use Rattle.cue_book.specs.declared.Part.{Part}
 use Rattle.cue_book.specs.Format.{Cue}
 use Rattle.cue_book.specs.Reading.{afterPhrase, afterOrdinal, cueRefusal, cueSize, cueOf, readBook, refusalOf, numberOf, cuesIn, titleAt}
 
--- the bytes of a book from a start up to an end
-abbrev pub part : List ℕ → ℕ → ℕ → List ℕ
-part book start end = take (end - start) (drop start book)
-
 -- ---- a cue
 
 -- the refusal's number of an answer, 0 for a cue
 abbrev pub cueNumber : CueAnswer → ℕ
 cueNumber (entry.Cue phrase phrase-end ordinal title end) = 0
 cueNumber (entry.Refused number) = number
+
+-- the place after the cue, 0 for a refusal
+abbrev pub cueEnd : CueAnswer → ℕ
+cueEnd (entry.Cue phrase phrase-end ordinal title end) = end
+cueEnd (entry.Refused number) = 0
 
 -- the cue that an answer means: its phrase and its title are parts of the book. A refusal means none
 abbrev pub cuesMeant : List ℕ → CueAnswer → List Cue
@@ -53,13 +55,19 @@ pub record CueRead (book : List ℕ) (place : ℕ) (r : CueAnswer) : Type 0 wher
 abbrev pub bookAnswer : List ℕ → Answer
 bookAnswer book = record { refusal = refusalOf (readBook book); number = numberOf (readBook book) }
 
--- ---- a title
-
 -- where the cue of that index begins: after the one before it
 unfoldable pub cuePlace : List ℕ → ℕ → ℕ
 unfolding numberIn
 cuePlace book zero = 0
 cuePlace book (suc index) = cuePlace book index + cueSize (drop (cuePlace book index) book)
+
+-- reading the cue of that index gave back that cue, whole, and ended where the next one begins
+pub record CueBack (book : List ℕ) (index : ℕ) (c : Cue) (r : CueAnswer) : Type 0 where
+  pub number : cueNumber r ≡ 0
+  pub meant : cuesMeant book r ≡ c ∷ []
+  pub next : cueEnd r ≡ cuePlace book (suc index)
+
+-- ---- a title
 
 -- where its title stands
 abbrev pub titleIn : List ℕ → ℕ → Part
@@ -79,3 +87,10 @@ titlePart book index = cond (ltb index (length (cuesIn (readBook book)))) (title
 pub record TitlePlaced (book : List ℕ) (index : ℕ) (r : Part) : Type 0 where
   pub answer : r ≡ titlePart book index
   pub shows : take (r .len) (drop (r .start) book) ≡ titleAt (cuesIn (readBook book)) index
+
+-- the part itself, a reference into the book: it begins in the book's own memory, so many bytes from the book's first, it has the part's length, and the title of that cue is what
+-- stands there. So the title of a refused book or of a missing cue is the empty part at the book's front, and no other empty part
+pub record TitleShown (book : RefT (List ℕ)) (index : ℕ) (r : RefT (List ℕ)) : Type 0 where
+  pub starts : r .ptr ≡ (book .ptr .0, book .ptr .1 + titlePart (book .now) index .start)
+  pub long : length (r .now) ≡ titlePart (book .now) index .len
+  pub shows : r .now ≡ titleAt (cuesIn (readBook (book .now))) index

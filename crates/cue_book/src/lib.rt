@@ -5,8 +5,7 @@ use cue_fields::FieldAnswer;
 ghost use mathlib.Core.Path.{_≡_};
 ghost use Prim.Native.Nat.{_≤_};
 ghost use lib.ListN.{length, take};
-ghost use Rattle.cue_book.specs.Reading.{readBook, cuesIn, titleAt};
-ghost use Rattle.cue_book.specs.Places.{cueNumber, CueRead, bookAnswer, TitlePlaced};
+ghost use Rattle.cue_book.specs.Places.{cueNumber, CueRead, bookAnswer, TitlePlaced, TitleShown};
 ghost use Rattle.cue_book.specs.Walking.{Walked};
 
 // What reading a cue gives: its phrase and its title as the parts of the book where they stand, its ordinal, and the place after it, where the title ends; or the refusal's number.
@@ -166,14 +165,14 @@ pub fn title_part(book: &[u8], cue: u32) -> Part
 // The first bytes from a title's body onward.
 fn first(bytes: &[u8], len: usize) -> &[u8]
     requires { ⌜ len ≤ length (now bytes) ⌝ }
-    ensures { λ r. ⌜ now r ≡ take len (now (bytes .entry)) ⌝ }
+    ensures { λ r. ⌜ (r .ptr ≡ bytes .entry .ptr) × (now r ≡ take len (now (bytes .entry))) ⌝ }
 {
     &bytes[..len]
 }
 
 // The title of a cue, as the part of the book where it stands.
 pub fn title(book: &[u8], cue: u32) -> &[u8]
-    ensures { λ r. ⌜ now r ≡ titleAt (cuesIn (readBook (now (book .entry)))) cue ⌝ }
+    ensures { λ r. ⌜ TitleShown (book .entry) cue r ⌝ }
 {
     let p = title_part(book, cue);
     let start = p.start;

@@ -3,9 +3,9 @@ use mathlib.Core.Path.{_≡_, refl, sym, ap, ap₂, _∙_}
 use Prim.Native.Nat.{ℕ, _+_, _*_, _≤_}
 use native.Mathlib.Omega.{arith}
 use mathlib.Core.Bool.{true, false}
-use mathlib.Core.List.{List}
+use mathlib.Core.List.{List, [], _∷_}
 use lib.ListN.{length, getD, take, drop, length-drop}
-use lib.Seq.{drop-drop, getD-take}
+use lib.Seq.{getD-take}
 use lib.Dec.{eqb, ltb}
 use denote.Enum.Declared as declared
 use borrow.Author.Tests.{eq-eqb, eqb-true, eqb-false, ltb-true, ltb-false}
@@ -15,8 +15,8 @@ use Rattle.cue_fields.specs.declared.Due.the-variants.{Ordinal}
 use Rattle.cue_fields.specs.declared.FieldAnswer.{FieldAnswer}
 use Rattle.cue_fields.specs.declared.FieldAnswer.the-variants.{Body, Refused}
 use Rattle.cue_fields.proofs.FieldAnswer as answers
-use Rattle.cue_fields.specs.Field.{tagOf, allowed, numberIn, fieldLength, fieldSize, fieldBody, afterField, ordinalZero, bodyRefusal, fieldRefusal, fieldNumber, fieldAt, FieldRead}
-use Rattle.cue_fields.proofs.Fields.{body-short, body-whole, field-short, field-tag, field-length, field-body}
+use Rattle.cue_fields.specs.Field.{tagOf, allowed, numberIn, fieldLength, fieldSize, fieldBody, afterField, ordinalZero, bodyRefusal, fieldRefusal, part, fieldNumber, bodiesMeant, fieldAt, FieldRead}
+use Rattle.cue_fields.proofs.Fields.{after-field, body-short, body-whole, field-short, field-tag, field-length, field-body}
 
 -- ---- a field that is read
 
@@ -72,10 +72,16 @@ pub record BodyAt (book : List ℕ) (place : ℕ) (due : Due) (start end : ℕ) 
   pub none : fieldRefusal due (drop place book) ≡ 0
   pub start-is : start ≡ place + 3
   pub end-is : end ≡ place + fieldSize (drop place book)
+  pub body : part book start end ≡ fieldBody (drop place book)
 
 -- an answer that is a refusal is no reading, whatever its type: `tag` tells a reading (0) from a refusal (1)
 pub told-apart : {A : Type 0} (tag : A → ℕ) {r read : A} → r ≡ read → tag read ≡ 0 → tag r ≡ 1 → ⊥
 told-apart tag is zero one = omega (arith, ap tag is)
+
+-- what an answer means is a list of one or none: its first, or else that other
+unfoldable pub firstOf : {A : Type 0} → A → List A → A
+firstOf other [] = other
+firstOf other (x ∷ xs) = x
 
 startOf : FieldAnswer → ℕ
 startOf (Body start end) = start
@@ -87,12 +93,17 @@ endOf (Refused number) = 0
 
 module _ {book : List ℕ} {place : ℕ} {due : Due} {r : FieldAnswer} (read : FieldRead book place due r) where
   pub body-at : {start end : ℕ} → r ≡ Body start end → BodyAt book place due start end
-  unfolding fieldAt startOf endOf
+  unfolding fieldAt startOf endOf firstOf
   body-at {start} {end} e =
       let none : fieldRefusal due (drop place book) ≡ 0 = sym (read .number) ∙ ap fieldNumber e in
       let on = eq-eqb (fieldRefusal due (drop place book)) 0 none in
       let same : Body start end ≡ Body (place + 3) (place + fieldSize (drop place book)) = sym e ∙ read .answer ∙ rw on in
-      record { none = none; start-is = ap startOf same; end-is = ap endOf same }
+      record {
+        none = none;
+        start-is = ap startOf same;
+        end-is = ap endOf same;
+        body = ap (firstOf (part book start end)) (ap (bodiesMeant book) (sym e) ∙ read .meant) ∙ rw on;
+      }
 
   -- it was refused: the number is the refusal's
   pub refused-some : declared.tagOf answers.the-type r ≡ 1 → fieldNumber r ≡ 0 → ⊥
@@ -103,10 +114,6 @@ module _ {book : List ℕ} {place : ℕ} {due : Due} {r : FieldAnswer} (read : F
       told-apart (declared.tagOf answers.the-type) is refl t
 
 -- ---- where it stands in the book
-
--- what is left after some bytes more, by places of the book
-pub after-field : (book : List ℕ) (place size : ℕ) → drop (place + size) book ≡ drop size (drop place book)
-after-field book place size = sym (drop-drop size place book)
 
 -- what is left after a field that was read
 pub after-at : {book : List ℕ} {place : ℕ} {due : Due} {start end : ℕ} → BodyAt book place due start end → drop end book ≡ afterField (drop place book)

@@ -1,16 +1,17 @@
 -- The tests of a field, one by one: what each case of `fieldRefusal` gives, and what follows where a field is read. Assumes nothing.
-use mathlib.Core.Path.{_≡_, sym, ap, _∙_}
+use mathlib.Core.Path.{_≡_, sym, ap, ap₂, _∙_}
 use Prim.Native.Nat.{ℕ, _+_, _-_, _≤_, _<_}
 use native.Mathlib.Omega.{arith}
 use mathlib.Core.Bool.{true, false, cond}
-use mathlib.Core.List.{List}
+use mathlib.Core.List.{List, [], _∷_}
 use lib.ListN.{length, getD, take, drop, length-drop}
-use lib.Seq.{take-all}
+use lib.Seq.{take-all, drop-drop}
 use lib.Dec.{eqb, ltb}
 use borrow.Author.Tests.{eq-eqb, ne-eqb, lt-ltb, le-ltb}
+use Rattle.matching.proofs.Tests.{cond-most}
 use Rattle.cue_fields.specs.declared.Due.{Due}
 use Rattle.cue_fields.specs.declared.FieldAnswer.the-variants.{Body, Refused}
-use Rattle.cue_fields.specs.Field.{tagOf, allowed, fieldLength, fieldSize, ordinalZero, bodyRefusal, fieldRefusal, fieldAt, FieldRead}
+use Rattle.cue_fields.specs.Field.{tagOf, allowed, fieldLength, fieldSize, ordinalZero, bodyRefusal, fieldRefusal, part, fieldAt, FieldRead}
 
 -- ---- parts of a book
 
@@ -23,6 +24,16 @@ from-is l k = take-all (length l - k) (drop k l) (omega (arith, length-drop k l)
 
 pub from-twice : (l : List ℕ) (k j : ℕ) → from (from l k) j ≡ drop j (drop k l)
 from-twice l k j = from-is (from l k) j ∙ ap (λ (x : List ℕ). drop j x) (from-is l k)
+
+-- what is left after some bytes more, by places of the book
+pub after-field : (book : List ℕ) (place size : ℕ) → drop (place + size) book ≡ drop size (drop place book)
+after-field book place size = sym (drop-drop size place book)
+
+-- the body of a field that starts there
+pub body-part : (book : List ℕ) (place n : ℕ) → part book (place + 3) (place + (3 + n)) ≡ take n (drop 3 (drop place book))
+body-part book place n =
+    let e : place + (3 + n) - (place + 3) ≡ n = omega arith in
+    ap₂ (λ (k : ℕ) (l : List ℕ). take k l) e (after-field book place 3)
 
 -- ---- from the body onward
 
@@ -53,6 +64,19 @@ module _ (due : Due) (rest : List ℕ) where
   unfolding fieldRefusal
   field-body h t a = rw (le-ltb (length rest) 3 h, eq-eqb (getD rest 0 0) (tagOf due) t, a)
 
+  -- 7, 8 or 9
+  pub field-most : fieldRefusal due rest ≤ 9
+  unfolding fieldRefusal bodyRefusal
+  field-most =
+      let seven : 7 ≤ 9 = omega arith in
+      let eight : 8 ≤ 9 = omega arith in
+      let nine : 9 ≤ 9 = omega arith in
+      let zero : 0 ≤ 9 = omega arith in
+      cond-most (ltb (length rest) 3) seven
+      (cond-most (eqb (getD rest 0 0) (tagOf due))
+      (cond-most (allowed due (fieldLength rest)) (cond-most (ltb (length (drop 3 rest)) (fieldLength rest)) seven (cond-most (ordinalZero due (drop 3 rest)) nine zero)) nine)
+      eight)
+
 -- ---- the answer by its cases
 
 module _ (book : List ℕ) (place : ℕ) (due : Due) where
@@ -60,8 +84,10 @@ module _ (book : List ℕ) (place : ℕ) (due : Due) where
   unfolding fieldAt
   at-refused {number} e some =
       let off = ne-eqb (fieldRefusal due (drop place book)) 0 (λ z. some (sym e ∙ z)) in
-      record { answer = rw off (ap Refused (sym e)); number = sym e }
+      record { answer = rw off (ap Refused (sym e)); number = sym e; meant = rw off }
 
   pub at-body : fieldRefusal due (drop place book) ≡ 0 → {start end : ℕ} → start ≡ place + 3 → end ≡ place + fieldSize (drop place book) → FieldRead book place due (Body start end)
   unfolding fieldAt
-  at-body e s t = let on = eq-eqb (fieldRefusal due (drop place book)) 0 e in record { answer = rw (on, s, t); number = sym e }
+  at-body e s t =
+      let on = eq-eqb (fieldRefusal due (drop place book)) 0 e in
+      record { answer = rw (on, s, t); number = sym e; meant = rw on (ap (λ (b : List ℕ). b ∷ []) (ap₂ (part book) s t ∙ body-part book place (fieldLength (drop place book)))) }

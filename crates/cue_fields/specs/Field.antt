@@ -1,7 +1,7 @@
 -- A field of a cue book (document 01, "Cue book, folding, lines"): its bytes, and what reading it gives on every byte string, with the tests in the document's order. `rest` is what is
 -- left of the book at the field.
 use mathlib.Core.Path.{_≡_}
-use Prim.Native.Nat.{ℕ, _+_, _*_, _/_, _%_}
+use Prim.Native.Nat.{ℕ, _+_, _-_, _*_, _/_, _%_}
 use mathlib.Core.Bool.{Bool, false, cond, _&&_}
 use mathlib.Core.List.{List, [], _∷_, _++_}
 use lib.ListN.{length, getD, take, drop}
@@ -74,10 +74,19 @@ fieldRefusal due rest =
 
 -- ---- the answer
 
+-- the bytes of a book from a start up to an end
+abbrev pub part : List ℕ → ℕ → ℕ → List ℕ
+part book start end = take (end - start) (drop start book)
+
 -- the refusal's number of an answer, 0 for a field
 abbrev pub fieldNumber : FieldAnswer → ℕ
 fieldNumber (Body start end) = 0
 fieldNumber (Refused number) = number
+
+-- the body that an answer means: the part of the book where it stands. A refusal means none
+abbrev pub bodiesMeant : List ℕ → FieldAnswer → List (List ℕ)
+bodiesMeant book (Body start end) = part book start end ∷ []
+bodiesMeant book (Refused number) = []
 
 -- the answer at a place: the body starts after the header's three bytes
 unfoldable pub fieldAt : List ℕ → ℕ → Due → FieldAnswer
@@ -87,7 +96,8 @@ fieldAt book place due =
     (Body (place + 3) (place + fieldSize (drop place book)))
     (Refused (fieldRefusal due (drop place book)))
 
--- what is read there, and its number in document 01
+-- what is read there, its number in document 01, and the body that it means
 pub record FieldRead (book : List ℕ) (place : ℕ) (due : Due) (r : FieldAnswer) : Type 0 where
   pub answer : r ≡ fieldAt book place due
   pub number : fieldNumber r ≡ fieldRefusal due (drop place book)
+  pub meant : bodiesMeant book r ≡ cond (eqb (fieldRefusal due (drop place book)) 0) (fieldBody (drop place book) ∷ []) []

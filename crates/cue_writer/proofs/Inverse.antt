@@ -1,4 +1,4 @@
--- Demand 2 on the cue book: the bytes of any list of at most 999 valid cues read back as exactly these cues (`written-reads`); whatever byte string is accepted is exactly the bytes of
+-- Demand 2 on the cue book: the bytes of any list of at most 999 valid cues read back as exactly these cues (`written-reads`), each whole at its own place (`written-cue`); whatever byte string is accepted is exactly the bytes of
 -- the cues that reading gives (`accepted-written`), so every byte string that is no such book is refused (`others-refused`); and a book put together from written cues reads back
 -- (`assembled-reads`). Assumes nothing.
 use mathlib.Core.Path.{_≡_, refl, sym, ap, ap₂, subst, _∙_}
@@ -6,24 +6,26 @@ use Prim.Native.Nat.{ℕ, zero, suc, _+_, _*_, _-_, _/_, _%_, _≤_, _<_}
 use native.Mathlib.Omega.{arith}
 use mathlib.Core.Bool.{true, false}
 use mathlib.Core.List.{List, [], _∷_, _++_, append-assoc}
-use lib.ListN.{length, getD, take, drop, length-append, take-append-drop}
+use lib.ListN.{length, getD, take, drop, length-append, length-drop, take-append-drop}
 use lib.Seq.{drop-drop, getD-drop, take-append-seam, drop-append-seam, length-take-le, getD-take}
 use lib.Dec.{eqb, leb}
 use borrow.Author.Tests.{eq-eqb, ne-eqb, le-leb, leb-true, eqb-false}
 use Rattle.matching.proofs.Tests.{both}
 use Rattle.pieces.proofs.Laid.{joined}
 use Rattle.cue_book.specs.declared.Answer.{Answer}
+use Rattle.cue_book.specs.declared.CueAnswer.{CueAnswer}
 use Rattle.cue_fields.specs.declared.Due.{Due}
 use Rattle.cue_fields.specs.declared.Due.the-variants.{Phrase, Ordinal, Title}
 use Rattle.cue_fields.specs.Field.{twoBytes, fieldBytes}
 use Rattle.cue_book.specs.Format.{Cue, cueBytes, bookBytes, Valid, AllValid}
 use Rattle.cue_fields.specs.Field.{tagOf, allowed, numberIn, fieldLength, fieldSize, fieldBody, afterField, ordinalZero}
-use Rattle.cue_book.specs.Reading.{afterPhrase, afterOrdinal, afterCue, cueRefusal, cueOf, refused, cues, followed, readUpTo, readBook, refusalOf, cuesIn}
+use Rattle.cue_book.specs.Places.{cueEnd, cuesMeant, CueRead, cuePlace}
+use Rattle.cue_book.specs.Reading.{afterPhrase, afterOrdinal, afterCue, cueRefusal, cueSize, cueOf, refused, cues, followed, readUpTo, readBook, refusalOf, cuesIn}
 use Rattle.cue_writer.specs.Writing.{writeRefusal}
 use Rattle.cue_writer.specs.Bytes.{Bytes, WroteCue, Assembled}
 use Rattle.cue_fields.proofs.Fielded.{Fielded, ordinal-two, ordinal-number}
 use Rattle.cue_book.proofs.Cues.{Cued, cued, cue-fine, same-cue}
-use Rattle.cue_book.proofs.Books.{cue-some, read-end, read-next, begins, ends, accepted-book}
+use Rattle.cue_book.proofs.Books.{cue-some, cue-inside, read-end, read-next, begins, ends, accepted-book, after-cue, place-next, cue-there}
 use Rattle.cue_writer.proofs.Writing.{fitting}
 
 -- ---- what is written reads back
@@ -107,6 +109,38 @@ reads (c ∷ cs) (suc more) index v h =
 pub written-reads : (cs : List Cue) → AllValid cs → length cs ≤ 999 → readBook (bookBytes cs) ≡ cues cs
 unfolding readBook
 written-reads cs v h = reads cs 999 0 v h
+
+-- a valid cue takes as many bytes as it has
+cue-length : (c : Cue) → Valid c → (more : List ℕ) → cueSize (cueBytes c ++ more) ≡ length (cueBytes c)
+cue-length c v more =
+    let b = cue-back c v more in
+    let rest : List ℕ = cueBytes c ++ more in
+    let left : length rest - cueSize rest ≡ length more = sym (length-drop (cueSize rest) rest) ∙ ap length (after-cue rest ∙ b .after) in
+    omega (arith, left, cue-inside rest (b .none), length-append (cueBytes c) more)
+
+-- the cue after these begins where their bytes end
+pub written-place : (before later : List Cue) → AllValid (before ++ later) → cuePlace (bookBytes (before ++ later)) (length before) ≡ length (bookBytes before)
+unfolding bookBytes AllValid cuePlace
+written-place [] later v = refl
+written-place (b ∷ before) later v =
+    let more : List ℕ = bookBytes (before ++ later) in
+    place-next (cueBytes b ++ more) (length before)
+    ∙ ap₂ (λ (n : ℕ) (l : List ℕ). n + cuePlace l (length before)) (cue-length b (v .0) more) (cue-back b (v .0) more .after)
+    ∙ ap (λ (n : ℕ). length (cueBytes b) + n) (written-place before later (v .1))
+    ∙ sym (length-append (cueBytes b) (bookBytes before))
+
+-- `read_cue` where a cue's bytes begin in such a book gives that cue, whole, and ends where they end
+pub written-cue : (before : List Cue) (c : Cue) (later : List Cue) → AllValid (before ++ c ∷ later) → length (before ++ c ∷ later) ≤ 999 → {r : CueAnswer}
+    → CueRead (bookBytes (before ++ c ∷ later)) (length (bookBytes before)) r
+    → (cuesMeant (bookBytes (before ++ c ∷ later)) r ≡ c ∷ []) × (cueEnd r ≡ length (bookBytes (before ++ c ∷ [])))
+written-cue before c later v h {r} read =
+    let cs : List Cue = before ++ c ∷ later in
+    let split : (before ++ c ∷ []) ++ later ≡ cs = append-assoc before (c ∷ []) later in
+    let one : length (before ++ c ∷ []) ≡ suc (length before) = length-append before (c ∷ []) ∙ omega arith in
+    let back = cue-there (bookBytes cs) before c later (written-reads cs v h) (subst (λ (place : ℕ). CueRead (bookBytes cs) place r) (sym (written-place before (c ∷ later) v)) read) in
+    let end : cuePlace (bookBytes cs) (suc (length before)) ≡ length (bookBytes (before ++ c ∷ [])) =
+    ap₂ (λ (l : List Cue) (n : ℕ). cuePlace (bookBytes l) n) (sym split) (sym one) ∙ written-place (before ++ c ∷ []) later (subst AllValid (sym split) v) in
+    (back .meant, back .next ∙ end)
 
 -- ---- what is accepted was so written
 
@@ -230,7 +264,8 @@ wrote-bytes {c} {bytes} w =
     let left : w .buffer′ ≡ cueBytes c ++ drop (length (cueBytes c)) (w .buffer) = w .wrote .left ∙ rw on in
     (w .is ∙ ap₂ (λ (n : ℕ) (l : List ℕ). take n l) number left ∙ take-append-seam (cueBytes c) (drop (length (cueBytes c)) (w .buffer)), fitting c (length (w .buffer)) none .valid)
 
-assembled-bytes : (cs : List Cue) (pieces : List (List ℕ)) → Assembled cs pieces → (joined pieces ≡ bookBytes cs) × AllValid cs
+-- so a book put together from written cues is their bytes
+pub assembled-bytes : (cs : List Cue) (pieces : List (List ℕ)) → Assembled cs pieces → (joined pieces ≡ bookBytes cs) × AllValid cs
 unfolding Assembled joined bookBytes AllValid
 assembled-bytes [] [] a = (refl, tt)
 assembled-bytes [] (bytes ∷ pieces) a = absurd a

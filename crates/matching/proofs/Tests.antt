@@ -1,7 +1,7 @@
 -- Case analysis on a test that computes. Assumes nothing.
 use mathlib.Core.Path.{_≡_, refl, sym, ap}
-use Prim.Native.Nat.{ℕ}
-use mathlib.Core.Bool.{Bool, true, false, _&&_, _||_, false≢true}
+use Prim.Native.Nat.{ℕ, _≤_}
+use mathlib.Core.Bool.{Bool, true, false, cond, _&&_, _||_, false≢true}
 use mathlib.Core.List.{List}
 use lib.ListN.{getD}
 
@@ -19,6 +19,11 @@ both false b e = absurd (false≢true e)
 pub either : (a b : Bool) → a || b ≡ true → a ≡ false → b ≡ true
 either true b e f = absurd (false≢true (sym f))
 either false b e f = e
+
+-- a choice between two numbers is no larger than both
+pub cond-most : (t : Bool) {x y n : ℕ} → x ≤ n → y ≤ n → cond t x y ≤ n
+cond-most true h k = h
+cond-most false h k = k
 
 -- the same letter at the same place
 pub at-same : (l : List ℕ) {i j : ℕ} → i ≡ j → getD l i 0 ≡ getD l j 0

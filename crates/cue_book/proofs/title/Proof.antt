@@ -1,22 +1,20 @@
--- `cue_book::title` meets its contract: the part that is placed lies in the book. Assumes nothing.
+-- `cue_book::title` meets its contract: the part that is placed lies in the book, and its bytes from there on begin where the book does, so many bytes on. Assumes nothing.
 use borrow.Author.Needs.{needs}
-use mathlib.Core.Path.{ap, _∙_}
+use mathlib.Core.Path.{_≡_, ap, _∙_}
 use mathlib.Core.List.{List}
 use Prim.Native.Nat.{ℕ, _+_, _≤_}
 use native.Mathlib.Omega.{arith}
-use lib.ListN.{length, take, length-drop}
+use lib.ListN.{length, take, drop, length-drop}
+use lib.Seq.{length-take-le}
 use Rattle.cue_book.specs.declared.Part.{Part}
 use Rattle.cue_fields.proofs.Fields.{from-is}
-use Rattle.cue_book.proofs.Books.{title-shows}
+use Rattle.cue_book.proofs.Books.{placed-inside}
 use Rattle.cue_book.proofs.title.Statement.{statement}
 use Rattle.cue_book.proofs.title.Tie as tie
 
 -- the part lies in the book
 inside : (p : tie.After-title-part) → p .title-part .result .start + p .title-part .result .len ≤ length (p .before .before .args .book .now)
-inside p =
-    let a = p .before .before .args in
-    let e = p .title-part .ensures .answer in
-    omega (arith, ap (λ (q : Part). q .start) e, ap (λ (q : Part). q .len) e, title-shows (a .book .now) (a .cue) .inside)
+inside p = placed-inside (p .title-part .ensures)
 
 title-part-requires : tie.Need-title-part-requires
 title-part-requires c κs = search needs
@@ -40,9 +38,16 @@ first-requires c κs =
 returns : tie.Need-returns
 returns c =
     let p = c .before .before in
-    let book = p .before .before .args .book .now in
+    let book = p .before .before .args .book in
     let r = p .title-part .result in
-    c .first .ensures ∙ ap (λ (l : List ℕ). take (r .len) l) (from-is book (r .start)) ∙ p .title-part .ensures .shows
+    let is = p .title-part .ensures .answer in
+    let on : r .start + book .ptr .1 ≡ book .ptr .1 + r .start = omega arith in
+    let shown = c .first .ensures .1 ∙ ap (λ (l : List ℕ). take (r .len) l) (from-is (book .now) (r .start)) in
+    record {
+      starts = c .first .ensures .0 ∙ ap (λ (n : ℕ). (book .ptr .0, n)) (on ∙ ap (λ (q : Part). book .ptr .1 + q .start) is);
+      long = ap length shown ∙ length-take-le (r .len) (drop (r .start) (book .now)) (omega (arith, inside p, length-drop (r .start) (book .now))) ∙ ap (λ (q : Part). q .len) is;
+      shows = shown ∙ p .title-part .ensures .shows;
+    }
 
 pub title-spec : {M : Type 1} → statement M
 title-spec =
