@@ -5,7 +5,7 @@ use mathlib.Core.Logic.{inr}
 use Prim.Native.Nat.{ℕ, _+_, _-_, _≤_, _<_}
 use native.Mathlib.Omega.{arith}
 use mathlib.Core.Bool.{cond}
-use mathlib.Core.List.{List, _++_}
+use mathlib.Core.List.{List, [], _∷_, _++_}
 use lib.ListN.{length, getD, drop}
 use lib.Dec.{leb}
 use borrow.Author.Tests.{eq-eqb, ne-eqb, le-leb, lt-leb, leb-true, leb-false}
@@ -18,7 +18,7 @@ use Rattle.fjs.specs.declared.Place.{Place}
 use Rattle.fjs.specs.declared.Place.the-variants.{Refused, At, Nothing}
 use Rattle.fjs.specs.declared.Tally.{Tally}
 use Rattle.fjs.specs.Fjs.{fjs}
-use Rattle.fjs.specs.Nth.{number, nthOf, nthAnswer, Located}
+use Rattle.fjs.specs.Nth.{number, placesMeant, nthOf, nthAnswer, Located}
 use Rattle.fjs.specs.Search.{Searched}
 use Rattle.fjs.proofs.nth.Statement.{statement}
 use Rattle.fjs.proofs.nth.Tie as tie
@@ -41,15 +41,27 @@ nth-number : (positions : List ℕ) (ordinal : ℕ) → number (nthOf positions 
 unfolding nthOf
 nth-number positions ordinal = by-test (λ t. number (cond t (At (getD positions (ordinal - 1) 0)) Nothing) ≡ cond t 0 12) (hasNth positions ordinal) (λ _. refl) (λ _. refl)
 
+nth-meant : (positions : List ℕ) (ordinal : ℕ) → placesMeant (nthOf positions ordinal) ≡ cond (hasNth positions ordinal) (getD positions (ordinal - 1) 0 ∷ []) []
+unfolding nthOf
+nth-meant positions ordinal =
+    by-test (λ t. placesMeant (cond t (At (getD positions (ordinal - 1) 0)) Nothing) ≡ cond t (getD positions (ordinal - 1) 0 ∷ []) []) (hasNth positions ordinal) (λ _. refl) (λ _. refl)
+
 module _ {P T scratch : List ℕ} {ordinal : ℕ} where
   refused : {number : ℕ} → number ≡ refusalOf fjs P T scratch → (number ≡ 0 → ⊥) → Located P T scratch ordinal (Refused number) scratch
   unfolding nthAnswer
-  refused {number} is some = let off = ne-eqb (refusalOf fjs P T scratch) 0 (λ z. some (is ∙ z)) in record { answer = rw (off, is); numbered = rw off is; left = rw off }
+  refused {number} is some = let off = ne-eqb (refusalOf fjs P T scratch) 0 (λ z. some (is ∙ z)) in record { answer = rw (off, is); numbered = rw off is; meant = rw off; left = rw off }
 
   accepted : refusalOf fjs P T scratch ≡ 0 → {r : Place} {scratch′ : List ℕ} → r ≡ nthOf (occurrences P T) ordinal → scratch′ ≡ fjs .tables P ++ drop (fjs .entries (length P)) scratch
       → Located P T scratch ordinal r scratch′
   unfolding nthAnswer
-  accepted none a t = let on = eq-eqb (refusalOf fjs P T scratch) 0 none in record { answer = rw on a; numbered = rw on (ap number a ∙ nth-number (occurrences P T) ordinal); left = rw on t }
+  accepted none a t =
+      let on = eq-eqb (refusalOf fjs P T scratch) 0 none in
+      record {
+        answer = rw on a;
+        numbered = rw on (ap number a ∙ nth-number (occurrences P T) ordinal);
+        meant = rw on (ap placesMeant a ∙ nth-meant (occurrences P T) ordinal);
+        left = rw on t;
+      }
 
 -- the search ended with the text, or at that occurrence
 module _ {P T list list′ : List ℕ} {ordinal : ℕ} {r : Tally} (s : Searched P T list ordinal r list′) (some : 1 ≤ ordinal) where
