@@ -2,13 +2,14 @@
 use mathlib.Core.Path.{_≡_, refl, sym, ap, subst, _∙_}
 use Prim.Native.Nat.{ℕ, _*_, _≤_, _<_}
 use native.Mathlib.Omega.{arith}
-use mathlib.Core.Bool.{Bool, true, false, cond, false≢true}
+use mathlib.Core.Logic.{_⊎_, ⊎-elim}
+use mathlib.Core.Bool.{Bool, true, cond, _||_}
 use mathlib.Core.List.{List, _++_, map}
 use lib.ListN.{length, drop, replicate}
 use lib.Dec.{eqb, ltb}
 use borrow.Author.Tests.{eq-eqb, ne-eqb, eqb-true, eqb-false, lt-ltb, le-ltb, ltb-true, ltb-false}
 use Rattle.matching.specs.Received.{received}
-use Rattle.matching.proofs.Tests.{by-test}
+use Rattle.matching.proofs.Tests.{by-test, cond-most}
 use Rattle.matching.proofs.Received.{received-none}
 use Rattle.fold.specs.Fold.{folded}
 use Rattle.cue_fields.proofs.Fielded.{clash}
@@ -16,8 +17,8 @@ use Rattle.cue_book.specs.declared.Answer.{Answer}
 use Rattle.cue_book.specs.Format.{Cue}
 use Rattle.cue_book.specs.Reading.{refused, cues, readBook, refusalOf, numberOf, cuesIn}
 use Rattle.cue_book.specs.Places.{bookAnswer}
-use Rattle.cue_book.proofs.Books.{refused-book}
-use Rattle.resolver.specs.Resolver.{resolveFrom, memoryRefusal, Outcome, refusing, withBook, outcome, Resolved}
+use Rattle.cue_book.proofs.Books.{refused-book, book-most, accepted-book}
+use Rattle.resolver.specs.Resolver.{resolveFrom, memoryRefusal, Outcome, refusing, withBook, Lent, lengths, outcome, Resolved}
 use Rattle.resolver.specs.Walking.{Placed}
 
 -- ---- the tests of the memory
@@ -89,11 +90,11 @@ with-room text room cs h = rw (le-ltb room (3 * length cs) h)
 
 module _ (book text copy phrase scratch entries : List ℕ) where
   -- refused: all as before
-  resolved-refused : {number index : ℕ} → outcome book text copy phrase scratch entries ≡ refusing number index → Resolved book text copy phrase scratch entries (record { refusal = number; number = index }) copy phrase scratch entries
+  resolved-refused : {number index : ℕ} → outcome book text (lengths copy phrase scratch entries) ≡ refusing number index → Resolved book text copy phrase scratch entries (record { refusal = number; number = index }) copy phrase scratch entries
   resolved-refused e = record { answer = rw e; copied = rw e; cleared = rw e; emptied = rw e; entered = rw e (sym (received-none entries)) }
 
   outcome-memory : (memoryRefusal (length text) (length copy) (length phrase) (length scratch) ≡ 0 → ⊥)
-      → outcome book text copy phrase scratch entries ≡ refusing (memoryRefusal (length text) (length copy) (length phrase) (length scratch)) 0
+      → outcome book text (lengths copy phrase scratch entries) ≡ refusing (memoryRefusal (length text) (length copy) (length phrase) (length scratch)) 0
   unfolding outcome
   outcome-memory some = rw (ne-eqb (memoryRefusal (length text) (length copy) (length phrase) (length scratch)) 0 some)
 
@@ -102,7 +103,7 @@ module _ (book text copy phrase scratch entries : List ℕ) where
   resolved-memory {number} e some = resolved-refused (outcome-memory (λ z. some (e ∙ z)) ∙ ap (λ (m : ℕ). refusing m 0) (sym e))
 
   module _ (fine : memoryRefusal (length text) (length copy) (length phrase) (length scratch) ≡ 0) where
-    outcome-fine : outcome book text copy phrase scratch entries ≡ withBook text (length entries) (readBook book)
+    outcome-fine : outcome book text (lengths copy phrase scratch entries) ≡ withBook text (length entries) (readBook book)
     unfolding outcome
     outcome-fine =
         ap (λ (t : Bool). cond t (withBook text (length entries) (readBook book)) (refusing (memoryRefusal (length text) (length copy) (length phrase) (length scratch)) 0))
@@ -126,22 +127,60 @@ module _ (book text copy phrase scratch entries : List ℕ) where
         let e = outcome-fine ∙ ap (withBook text (length entries)) read ∙ with-room text (length entries) cs room in
         record { answer = rw e (placed .answer); copied = rw e c; cleared = rw e p; emptied = rw e s; entered = rw e (placed .entered) }
 
-  -- where cues are resolved, the tests were passed, and the outcome is that of the cues
-  pub worked : (cs : List Cue) → readBook book ≡ cues cs → outcome book text copy phrase scratch entries .works ≡ true
-      → (outcome book text copy phrase scratch entries ≡ record { works = true; resolution = resolveFrom 0 text cs }) × (3 * length cs ≤ length entries)
-  worked cs e works =
-      by-test (λ _. (outcome book text copy phrase scratch entries ≡ record { works = true; resolution = resolveFrom 0 text cs }) × (3 * length cs ≤ length entries)) (eqb memory 0)
+-- ---- what a call that gives 0 or 12 has passed
+
+memory-most : (n copy phrase scratch : ℕ) → memoryRefusal n copy phrase scratch ≤ 6
+unfolding memoryRefusal
+memory-most n copy phrase scratch =
+    let four : 4 ≤ 6 = omega arith in
+    let five : 5 ≤ 6 = omega arith in
+    let six : 6 ≤ 6 = omega arith in
+    let zero : 0 ≤ 6 = omega arith in
+    cond-most (ltb 32768 n) four (cond-most (ltb scratch 1281) five (cond-most (ltb copy n || ltb phrase 1024) six zero))
+
+-- a number that is 0 or 12 and is neither
+neither : {A : Type 0} {k : ℕ} → (k ≡ 0) ⊎ (k ≡ 12) → 1 ≤ k → k ≤ 11 → A
+neither {A} {k} j some most = ⊎-elim {C = A} (λ (e : k ≡ 0). absurd (omega arith)) (λ (e : k ≡ 12). absurd (omega arith)) j
+
+-- every test before 12 was passed, the book reads as its cues, and the outcome is theirs
+pub record Worked (book text : List ℕ) (lent : Lent) : Type 0 where
+  pub read : readBook book ≡ cues (cuesIn (readBook book))
+  pub room : 3 * length (cuesIn (readBook book)) ≤ lent .entries
+  pub is : outcome book text lent ≡ record { works = true; resolution = resolveFrom 0 text (cuesIn (readBook book)) }
+
+module _ (book text copy phrase scratch entries : List ℕ) where
+  abbrev lent : Lent
+  lent = lengths copy phrase scratch entries
+
+  abbrev memory : ℕ
+  memory = memoryRefusal (length text) (length copy) (length phrase) (length scratch)
+
+  abbrev given : ℕ
+  given = outcome book text lent .resolution .refusal
+
+  -- no refusal before 12 is 0 or 12
+  idle : {A : Type 0} {number index : ℕ} → (given ≡ 0) ⊎ (given ≡ 12) → outcome book text lent ≡ refusing number index → 1 ≤ number → number ≤ 11 → A
+  idle j e some most = let is = ap (λ (o : Outcome). o .resolution .refusal) e in neither j (omega (arith, is)) (omega (arith, is))
+
+  pub worked : (outcome book text lent .resolution .refusal ≡ 0) ⊎ (outcome book text lent .resolution .refusal ≡ 12) → Worked book text lent
+  worked j =
+      by-test (λ _. Worked book text lent) (eqb memory 0)
       (λ t. with-memory (eqb-true memory 0 t))
-      (λ t. idle (sym works ∙ ap (λ (o : Outcome). o .works) (outcome-memory (eqb-false memory 0 t))))
+      (λ t. let some = eqb-false memory 0 t in idle j (outcome-memory book text copy phrase scratch entries some) (omega arith) (omega (arith, memory-most (length text) (length copy) (length phrase) (length scratch))))
     where
-      memory : ℕ
-      memory = memoryRefusal (length text) (length copy) (length phrase) (length scratch)
+      with-cues : memory ≡ 0 → readBook book ≡ cues (cuesIn (readBook book)) → Worked book text lent
+      with-cues fine read =
+          let cs = cuesIn (readBook book) in
+          let is = outcome-fine book text copy phrase scratch entries fine ∙ ap (withBook text (length entries)) read in
+          by-test (λ _. Worked book text lent) (ltb (length entries) (3 * length cs))
+          (λ t. idle j (is ∙ with-few text (length entries) cs (ltb-true (length entries) (3 * length cs) t)) (omega arith) (omega arith))
+          (λ t. let h = ltb-false (length entries) (3 * length cs) t in record { read = read; room = h; is = is ∙ with-room text (length entries) cs h })
 
-      idle : {A : Type 0} → true ≡ false → A
-      idle e = absurd (false≢true (sym e))
-
-      with-memory : memory ≡ 0 → (outcome book text copy phrase scratch entries ≡ record { works = true; resolution = resolveFrom 0 text cs }) × (3 * length cs ≤ length entries)
+      with-memory : memory ≡ 0 → Worked book text lent
       with-memory fine =
-          by-test (λ _. (outcome book text copy phrase scratch entries ≡ record { works = true; resolution = resolveFrom 0 text cs }) × (3 * length cs ≤ length entries)) (ltb (length entries) (3 * length cs))
-          (λ t. idle (sym works ∙ ap (λ (o : Outcome). o .works) (outcome-fine fine ∙ ap (withBook text (length entries)) e ∙ with-few text (length entries) cs (ltb-true (length entries) (3 * length cs) t))))
-          (λ t. let h = ltb-false (length entries) (3 * length cs) t in (outcome-fine fine ∙ ap (withBook text (length entries)) e ∙ with-room text (length entries) cs h, h))
+          by-test (λ _. Worked book text lent) (eqb (refusalOf (readBook book)) 0)
+          (λ t. with-cues fine (accepted-book book (eqb-true (refusalOf (readBook book)) 0 t) .0))
+          (λ t.
+          let some = eqb-false (refusalOf (readBook book)) 0 t in
+          idle j (outcome-fine book text copy phrase scratch entries fine ∙ ap (withBook text (length entries)) (refused-book book some) ∙ with-refused text (length entries) (refusalOf (readBook book)) (numberOf (readBook book)))
+          (omega arith) (omega (arith, book-most book)))

@@ -1,10 +1,11 @@
--- Demand 2 on the resolver: each cue comes out at the occurrence that it names (`cue-out`, `cue-names`), with its line and column, and a text folded beforehand gives the same
--- (`folded-before`). Assumes nothing.
+-- Demand 2 on the resolver, for what a caller has: a resolve that gives 0 has every cue at the occurrence that it names (`all-out`), one that gives 12 every cue before the named one, whose
+-- occurrence does not exist (`one-missing`); what that occurrence is (`cue-names`); and a text folded beforehand gives the same (`folded-before`). Assumes nothing.
 use mathlib.Core.Path.{_≡_, refl, sym, ap, ap₂, _∙_}
 use Prim.Native.Nat.{ℕ, zero, suc, _+_, _-_, _*_, _≤_, _<_}
 use native.Mathlib.Omega.{arith}
-use mathlib.Core.Bool.{Bool, true, cond, false≢true}
-use mathlib.Core.List.{List, [], _∷_, _++_, map, List·Memᴰ, List·Memᴰ·head, List·Memᴰ·tail}
+use mathlib.Core.Logic.{_⊎_, inl, inr, ⊎-elim}
+use mathlib.Core.Bool.{Bool, true, false, cond, false≢true}
+use mathlib.Core.List.{List, [], _∷_, _++_, append-assoc, map, List·Memᴰ, List·Memᴰ·head, List·Memᴰ·tail}
 use lib.ListN.{length, getD, take, drop, length-append, length-drop, length-take}
 use lib.Seq.{drop-drop, take-append-le, drop-append-le}
 use lib.Dec.{eqb, leb}
@@ -17,13 +18,14 @@ use Rattle.fold.specs.Fold.{capital, folded}
 use Rattle.fold.proofs.Fold.{text-twice}
 use Rattle.cue_book.specs.declared.Answer.{Answer}
 use Rattle.cue_book.specs.Format.{Cue}
-use Rattle.cue_book.specs.Reading.{cues, readBook}
+use Rattle.cue_book.specs.Reading.{cues, readBook, cuesIn}
 use Rattle.line_column.specs.declared.LineColumn.{LineColumn}
 use Rattle.line_column.specs.LineColumn.{breaks, sinceBreak, lineColumn}
-use Rattle.resolver.specs.Resolver.{cueOccurrences, isThere, placeOf, entriesOf, Resolution, after, resolveFrom, Outcome, outcome, Resolved}
+use Rattle.resolver.specs.Resolver.{cueOccurrences, isThere, placeOf, entriesOf, Resolution, after, resolveFrom, Outcome, lengths, outcome, Resolved}
+use Rattle.resolver.specs.Told.{CameOut, AllOut, OneMissing}
 use Rattle.resolver.proofs.Resolving.{received-front}
 use Rattle.resolver.proofs.Walking.{resolve-there, resolve-missing}
-use Rattle.resolver.proofs.Calls.{worked}
+use Rattle.resolver.proofs.Calls.{Worked, worked}
 
 -- ---- the entries of each cue
 
@@ -70,23 +72,122 @@ written-few index text (c ∷ cs) =
     (λ _. omega (arith, written-few (suc index) text cs, length-append (entriesOf text c) (resolveFrom (suc index) text cs .written)))
     (λ _. omega arith)
 
--- where cues were resolved, each cue before the number that is given back (the number of cues, or the index of the cue that is missing) has its entries in its place, and its
--- occurrence exists
-pub cue-out : {book text copy phrase scratch entries : List ℕ} {r : Answer} {copy′ phrase′ scratch′ entries′ : List ℕ}
-    → Resolved book text copy phrase scratch entries r copy′ phrase′ scratch′ entries′ → outcome book text copy phrase scratch entries .works ≡ true
-    → (before : List Cue) (c : Cue) (later : List Cue) → readBook book ≡ cues (before ++ c ∷ later) → length before < r .number
-    → (take 3 (drop (3 * length before) entries′) ≡ entriesOf text c) × (isThere text c ≡ true)
-cue-out {book} {text} {copy} {phrase} {scratch} {entries} {r} {copy′} {phrase′} {scratch′} {entries′} made works before c later e h =
-    let o = worked book text copy phrase scratch entries (before ++ c ∷ later) e works in
-    let res : Resolution = resolveFrom 0 text (before ++ c ∷ later) in
-    let number : r .number ≡ res .number = ap (λ (a : Answer). a .number) (made .answer) ∙ ap (λ (x : Outcome). x .resolution .number) (o .0) in
-    let there = written-at 0 text before c later (omega arith) in
-    let whole : length (take 3 (drop (3 * length before) (res .written))) ≡ 3 = ap length (there .0) ∙ three text c in
-    let inside : 3 * length before + 3 ≤ length (res .written) = omega (arith, whole, length-take 3 (drop (3 * length before) (res .written)), length-drop (3 * length before) (res .written)) in (
-      ap (λ (l : List ℕ). take 3 (drop (3 * length before) l)) (made .entered ∙ ap (λ (x : Outcome). received entries (x .resolution .written)) (o .0))
-          ∙ front-holds entries (res .written) (3 * length before) (omega (arith, written-few 0 text (before ++ c ∷ later), o .1)) inside ∙ there .0,
-      there .1,
-    )
+-- the cues end in one of two ways: all were found, or one is missing
+record Whole (index : ℕ) (text : List ℕ) (cs : List Cue) : Type 0 where
+  refusal : resolveFrom index text cs .refusal ≡ 0
+  number : resolveFrom index text cs .number ≡ index + length cs
+
+record Missing (index : ℕ) (text : List ℕ) (cs : List Cue) : Type 0 where
+  refusal : resolveFrom index text cs .refusal ≡ 12
+  earlier : List Cue
+  missing : Cue
+  later : List Cue
+  split : cs ≡ earlier ++ missing ∷ later
+  number : resolveFrom index text cs .number ≡ index + length earlier
+  absent : isThere text missing ≡ false
+
+ended : (index : ℕ) (text : List ℕ) (cs : List Cue) → Whole index text cs ⊎ Missing index text cs
+unfolding resolveFrom
+ended index text [] = inl (record { refusal = refl; number = omega arith })
+ended index text (c ∷ cs) =
+    by-test (λ t. (isThere text c ≡ t) → Whole index text (c ∷ cs) ⊎ Missing index text (c ∷ cs)) (isThere text c)
+    (λ _ e.
+    let step = resolve-there index text c cs e in
+    let refusal = ap (λ (r : Resolution). r .refusal) step in
+    let number = ap (λ (r : Resolution). r .number) step in
+    ⊎-elim {C = Whole index text (c ∷ cs) ⊎ Missing index text (c ∷ cs)}
+    (λ w. inl (record { refusal = refusal ∙ w .refusal; number = number ∙ w .number ∙ omega arith }))
+    (λ m.
+    inr
+    (record {
+      refusal = refusal ∙ m .refusal;
+      earlier = c ∷ m .earlier;
+      missing = m .missing;
+      later = m .later;
+      split = ap (λ (l : List Cue). c ∷ l) (m .split);
+      number = number ∙ m .number ∙ omega arith;
+      absent = m .absent;
+    }))
+    (ended (suc index) text cs))
+    (λ _ e.
+    let stops = resolve-missing index text c cs e in
+    inr
+    (record {
+      refusal = ap (λ (r : Resolution). r .refusal) stops;
+      earlier = [];
+      missing = c;
+      later = cs;
+      split = refl;
+      number = ap (λ (r : Resolution). r .number) stops ∙ omega arith;
+      absent = e;
+    }))
+    refl
+
+module _ {book text copy phrase scratch entries : List ℕ} {r : Answer} {copy′ phrase′ scratch′ entries′ : List ℕ} (made : Resolved book text copy phrase scratch entries r copy′ phrase′ scratch′ entries′) where
+  abbrev all : List Cue
+  all = cuesIn (readBook book)
+
+  abbrev resolution : Resolution
+  resolution = resolveFrom 0 text all
+
+  module _ (w : Worked book text (lengths copy phrase scratch entries)) where
+    answer-is : r ≡ record { refusal = resolution .refusal; number = resolution .number }
+    answer-is = made .answer ∙ ap (λ (o : Outcome). record { refusal = o .resolution .refusal; number = o .resolution .number }) (w .is)
+
+    -- each cue before the number that is given back came out
+    cue-out : (before : List Cue) (c : Cue) (later : List Cue) → all ≡ before ++ c ∷ later → length before < resolution .number → CameOut text entries′ (length before) c
+    cue-out before c later e h =
+        let res : Resolution = resolveFrom 0 text (before ++ c ∷ later) in
+        let same : resolution ≡ res = ap (resolveFrom 0 text) e in
+        let there = written-at 0 text before c later (omega (arith, ap (λ (x : Resolution). x .number) same)) in
+        let whole : length (take 3 (drop (3 * length before) (res .written))) ≡ 3 = ap length (there .0) ∙ three text c in
+        let inside : 3 * length before + 3 ≤ length (res .written) = omega (arith, whole, length-take 3 (drop (3 * length before) (res .written)), length-drop (3 * length before) (res .written)) in
+        let room : length (res .written) ≤ length entries = omega (arith, written-few 0 text (before ++ c ∷ later), w .room, ap length e) in
+        let written : outcome book text (lengths copy phrase scratch entries) .resolution .written ≡ res .written = ap (λ (o : Outcome). o .resolution .written) (w .is) ∙ ap (λ (x : Resolution). x .written) same in
+        record {
+          there = there .1;
+          entered = ap (λ (l : List ℕ). take 3 (drop (3 * length before) l)) (made .entered ∙ ap (received entries) written) ∙ front-holds entries (res .written) (3 * length before) room inside ∙ there .0;
+        }
+
+  -- a resolve that gives 0
+  pub all-out : r .refusal ≡ 0 → AllOut book text entries′ r
+  all-out z =
+      let w = worked book text copy phrase scratch entries (inl (sym (ap (λ (a : Answer). a .refusal) (made .answer)) ∙ z)) in
+      let refusal : resolution .refusal ≡ 0 = sym (ap (λ (a : Answer). a .refusal) (answer-is w)) ∙ z in
+      let number : r .number ≡ resolution .number = ap (λ (a : Answer). a .number) (answer-is w) in
+      ⊎-elim {C = AllOut book text entries′ r}
+      (λ x.
+      record {
+        all = all;
+        read = w .read;
+        number = number ∙ x .number ∙ omega arith;
+        out = λ before c later e. cue-out w before c later e (omega (arith, x .number, ap length e, length-append before (c ∷ later)));
+      })
+      (λ x. absurd (omega (arith, refusal, x .refusal)))
+      (ended 0 text all)
+
+  -- a resolve that gives 12
+  pub one-missing : r .refusal ≡ 12 → OneMissing book text entries′ r
+  one-missing z =
+      let w = worked book text copy phrase scratch entries (inr (sym (ap (λ (a : Answer). a .refusal) (made .answer)) ∙ z)) in
+      let refusal : resolution .refusal ≡ 12 = sym (ap (λ (a : Answer). a .refusal) (answer-is w)) ∙ z in
+      let number : r .number ≡ resolution .number = ap (λ (a : Answer). a .number) (answer-is w) in
+      ⊎-elim {C = OneMissing book text entries′ r}
+      (λ x. absurd (omega (arith, refusal, x .refusal)))
+      (λ x.
+      record {
+        earlier = x .earlier;
+        missing = x .missing;
+        after = x .later;
+        read = w .read ∙ ap cues (x .split);
+        number = number ∙ x .number ∙ omega arith;
+        absent = x .absent;
+        out = λ before c later e.
+            cue-out w before c (later ++ x .missing ∷ x .later)
+            (x .split ∙ ap (λ (l : List Cue). l ++ x .missing ∷ x .later) e ∙ append-assoc before (c ∷ later) (x .missing ∷ x .later))
+            (omega (arith, x .number, ap length e, length-append before (c ∷ later)));
+      })
+      (ended 0 text all)
 
 -- ---- the occurrence that a cue names
 

@@ -20,7 +20,7 @@ use Rattle.fjs.specs.Nth.{nthOf}
 use Rattle.line_column.specs.LineColumn.{lineColumn}
 use Rattle.cue_book.specs.Format.{Cue}
 use Rattle.cue_book.specs.Reading.{cueSize, cues, readUpTo, readBook, cuesIn}
-use Rattle.cue_book.proofs.Books.{read-end, begins, Begins, ends, after-at-cue}
+use Rattle.cue_book.proofs.Books.{begins, Begins, after-at-cue}
 use Rattle.resolver.specs.Resolver.{isThere, placeOf, entriesOf, Resolution, after, resolveFrom}
 use Rattle.resolver.specs.Walking.{Placed}
 
@@ -82,6 +82,7 @@ module _ (index : ℕ) (text : List ℕ) (c : Cue) (cs : List Cue) where
 
 pub record Doing (book text : List ℕ) (cs : List Cue) (entries₀ : List ℕ) (index at place : ℕ) (entries : List ℕ) : Type 0 where
   pub rest : List Cue
+  pub all : index + length rest ≡ length cs
   pub more : ℕ
   pub left : more + index ≡ 999
   pub reads : readUpTo more index (drop place book) ≡ cues rest
@@ -91,10 +92,14 @@ pub record Doing (book text : List ℕ) (cs : List Cue) (entries₀ : List ℕ) 
   pub entered : entries ≡ received entries₀ written
   pub whole : resolveFrom 0 text cs ≡ after written (resolveFrom index text rest)
 
+empty : (l : List Cue) → length l ≡ 0 → l ≡ []
+empty [] e = refl
+empty (c ∷ l) e = absurd (omega arith)
+
 pub doing-first : (book text : List ℕ) (cs : List Cue) (entries : List ℕ) → readBook book ≡ cues cs → Doing book text cs entries 0 0 0 entries
 unfolding readBook
 doing-first book text cs entries e =
-    record { rest = cs; more = 999; left = omega arith; reads = e; written = []; counted = refl; three = omega arith; entered = sym (received-none entries); whole = refl }
+    record { rest = cs; all = omega arith; more = 999; left = omega arith; reads = e; written = []; counted = refl; three = omega arith; entered = sym (received-none entries); whole = refl }
 
 -- the next cue
 pub record Next (book : List ℕ) (more index place : ℕ) (rest : List Cue) : Type 0 where
@@ -104,18 +109,18 @@ pub record Next (book : List ℕ) (more index place : ℕ) (rest : List Cue) : T
   pub begun : Begins more index (drop place book) cue later
 
 module _ {book text : List ℕ} {cs : List Cue} {entries₀ : List ℕ} {index at place : ℕ} {entries : List ℕ} (d : Doing book text cs entries₀ index at place entries) where
-  pub doing-cue : place < length book → Next book (d .more) index place (d .rest)
-  doing-cue h = by-rest (d .rest) (d .reads)
+  pub doing-cue : index < length cs → Next book (d .more) index place (d .rest)
+  doing-cue h = by-rest (d .rest) (d .all) (d .reads)
     where
-      by-rest : (rest : List Cue) → readUpTo (d .more) index (drop place book) ≡ cues rest → Next book (d .more) index place rest
-      by-rest [] e = absurd (omega (arith, ends (d .more) index (drop place book) e, length-drop place book))
-      by-rest (c ∷ later) e = record { cue = c; later = later; is = refl; begun = begins (d .more) index (drop place book) c later e }
+      by-rest : (rest : List Cue) → index + length rest ≡ length cs → readUpTo (d .more) index (drop place book) ≡ cues rest → Next book (d .more) index place rest
+      by-rest [] n e = absurd (omega arith)
+      by-rest (c ∷ later) n e = record { cue = c; later = later; is = refl; begun = begins (d .more) index (drop place book) c later e }
 
-  -- the book ends here
-  pub doing-end : length book ≤ place → resolveFrom 0 text cs ≡ record { refusal = 0; number = index; written = d .written }
+  -- no cue is left
+  pub doing-end : length cs ≤ index → resolveFrom 0 text cs ≡ record { refusal = 0; number = index; written = d .written }
   unfolding resolveFrom
   doing-end h =
-      let none : d .rest ≡ [] = ap cuesIn (sym (d .reads) ∙ read-end (d .more) index (drop place book) (omega (arith, length-drop place book))) in
+      let none : d .rest ≡ [] = empty (d .rest) (omega (arith, d .all)) in
       d .whole ∙ ap (λ (l : List Cue). after (d .written) (resolveFrom index text l)) none ∙ ap (λ (w : List ℕ). record { refusal = 0; number = index; written = w }) (append-nil (d .written))
 
   -- a cue's entries are put after those of the cues before it
@@ -141,6 +146,7 @@ module _ {book text : List ℕ} {cs : List Cue} {entries₀ : List ℕ} {index a
         let b = n .begun in
         record {
           rest = n .later;
+          all = omega (arith, d .all, ap length (n .is));
           more = b .fewer;
           left = omega (arith, d .left, b .fewer-is);
           reads = ap₂ (λ (i : ℕ) (l : List ℕ). readUpTo (b .fewer) i l) (add-one index) (ap (λ (k : ℕ). drop k book) e ∙ after-at-cue book place) ∙ b .then;

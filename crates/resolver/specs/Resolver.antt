@@ -74,19 +74,29 @@ unfolding resolveFrom
 withBook text room (refused number index) = refusing number index
 withBook text room (cues cs) = cond (ltb room (3 * length cs)) (refusing 11 0) (record { works = true; resolution = resolveFrom 0 text cs })
 
--- the outcome of a call with this memory
-unfoldable pub outcome : List ℕ → List ℕ → List ℕ → List ℕ → List ℕ → List ℕ → Outcome
+-- how much memory is lent: the lengths of the text copy, the phrase buffer, the scratch and the cue entries
+pub record Lent : Type 0 where
+  pub copy : ℕ
+  pub phrase : ℕ
+  pub scratch : ℕ
+  pub entries : ℕ
+
+abbrev pub lengths : List ℕ → List ℕ → List ℕ → List ℕ → Lent
+lengths copy phrase scratch entries = record { copy = length copy; phrase = length phrase; scratch = length scratch; entries = length entries }
+
+-- the outcome of a call with a book and a text, and so much memory lent: what that memory held plays no part
+unfoldable pub outcome : List ℕ → List ℕ → Lent → Outcome
 unfolding memoryRefusal withBook readBook
-outcome book text copy phrase scratch entries =
-    cond (eqb (memoryRefusal (length text) (length copy) (length phrase) (length scratch)) 0)
-    (withBook text (length entries) (readBook book))
-    (refusing (memoryRefusal (length text) (length copy) (length phrase) (length scratch)) 0)
+outcome book text lent =
+    cond (eqb (memoryRefusal (length text) (lent .copy) (lent .phrase) (lent .scratch)) 0)
+    (withBook text (lent .entries) (readBook book))
+    (refusing (memoryRefusal (length text) (lent .copy) (lent .phrase) (lent .scratch)) 0)
 
 -- what is given back, and the lent memory afterwards: where cues were resolved, the copy's first n bytes are the folded text and phrase buffer and scratch are 0 throughout; the entries
 -- received those of the cues; the rest is as before
 pub record Resolved (book text copy phrase scratch entries : List ℕ) (r : Answer) (copy′ phrase′ scratch′ entries′ : List ℕ) : Type 0 where
-  pub answer : r ≡ record { refusal = outcome book text copy phrase scratch entries .resolution .refusal; number = outcome book text copy phrase scratch entries .resolution .number }
-  pub copied : copy′ ≡ cond (outcome book text copy phrase scratch entries .works) (map folded text ++ drop (length text) copy) copy
-  pub cleared : phrase′ ≡ cond (outcome book text copy phrase scratch entries .works) (replicate (length phrase) 0) phrase
-  pub emptied : scratch′ ≡ cond (outcome book text copy phrase scratch entries .works) (replicate (length scratch) 0) scratch
-  pub entered : entries′ ≡ received entries (outcome book text copy phrase scratch entries .resolution .written)
+  pub answer : r ≡ record { refusal = outcome book text (lengths copy phrase scratch entries) .resolution .refusal; number = outcome book text (lengths copy phrase scratch entries) .resolution .number }
+  pub copied : copy′ ≡ cond (outcome book text (lengths copy phrase scratch entries) .works) (map folded text ++ drop (length text) copy) copy
+  pub cleared : phrase′ ≡ cond (outcome book text (lengths copy phrase scratch entries) .works) (replicate (length phrase) 0) phrase
+  pub emptied : scratch′ ≡ cond (outcome book text (lengths copy phrase scratch entries) .works) (replicate (length scratch) 0) scratch
+  pub entered : entries′ ≡ received entries (outcome book text (lengths copy phrase scratch entries) .resolution .written)

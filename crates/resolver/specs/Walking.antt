@@ -10,8 +10,9 @@ use Rattle.cue_book.specs.Reading.{cues, readBook, cuesIn}
 use Rattle.resolver.specs.Resolver.{resolveFrom}
 
 -- every test before 12 was passed, and the text is folded
-pub record Ready (book text copy phrase scratch entries : List ℕ) : Type 0 where
+pub record Ready (book : List ℕ) (count : ℕ) (text copy phrase scratch entries : List ℕ) : Type 0 where
   pub read : readBook book ≡ cues (cuesIn (readBook book))
+  pub number : count ≡ length (cuesIn (readBook book))
   pub room : 3 * length (cuesIn (readBook book)) ≤ length entries
   pub small : length text ≤ 32768
   pub copied : copy ≡ map folded text

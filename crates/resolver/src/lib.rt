@@ -85,22 +85,23 @@ fn put_entries(entries: &mut [u32], at: usize, text: &[u8], place: u32)
     matching::store(entries, at + 2, column);
 }
 
-// Resolves cue by cue, reading the book once more, up to the first cue whose occurrence does not exist.
+// Resolves cue by cue, reading the book's cues once more, up to the first one whose occurrence does not exist.
 fn resolve_cues(
     book: &[u8],
+    cues: u32,
     text: &[u8],
     copy: &[u8],
     phrase: &mut [u8],
     scratch: &mut [u16],
     entries: &mut [u32],
 ) -> Answer
-    requires { ⌜ Ready (now book) (now text) (now copy) (now phrase) (now scratch) (now entries) ⌝ }
+    requires { ⌜ Ready (now book) cues (now text) (now copy) (now phrase) (now scratch) (now entries) ⌝ }
     ensures { λ r. ⌜ Placed (now (book .entry)) (now (text .entry)) (now (entries .entry)) r (now (entries .exit)) ⌝ }
 {
     let mut index = 0;
     let mut at = 0;
     let mut place = 0;
-    while place < book.len() {
+    while index < cues {
         let cue = cue_book::read_cue(book, place);
         let CueAnswer::Cue {
             phrase: start,
@@ -162,7 +163,15 @@ pub fn resolve(
         };
     }
     fold::letters(text, copy);
-    let r = resolve_cues(book, text, &copy[..n], phrase, scratch, entries);
+    let r = resolve_cues(
+        book,
+        read.number,
+        text,
+        &copy[..n],
+        phrase,
+        scratch,
+        entries,
+    );
     clear_bytes(phrase);
     clear_numbers(scratch);
     r

@@ -14,7 +14,7 @@ use Rattle.fold.specs.Fold.{folded}
 use Rattle.fjs.specs.Nth.{nthOf}
 use Rattle.cue_book.specs.Format.{Cue, cueWith}
 use Rattle.cue_book.specs.Reading.{readBook, cuesIn}
-use Rattle.cue_book.specs.Places.{part}
+use Rattle.cue_fields.specs.Field.{part}
 use Rattle.cue_book.proofs.Cues.{CueAt, cue-at, cue-refused-some, phrase-inside}
 use Rattle.resolver.specs.Resolver.{cueOccurrences}
 use Rattle.resolver.proofs.Walking.{found-there, found-not, Doing, doing-first, Next, doing-cue, doing-end, doing-missing, doing-next, doing-put, placed}
@@ -22,16 +22,16 @@ use Rattle.resolver.proofs.resolve_cues.Statement.{statement}
 use Rattle.resolver.proofs.resolve_cues.Tie as tie
 
 abbrev Inv-loop : tie.InvT-loop
-Inv-loop book text copy phrase₀ scratch₀ entries₀ index₀ at₀ place₀ phrase scratch entries index at place =
+Inv-loop book count text copy phrase₀ scratch₀ entries₀ index₀ at₀ place₀ phrase scratch entries index at place =
     Doing book text (cuesIn (readBook book)) entries₀ index at place entries × ((length phrase ≡ length phrase₀) × (length scratch ≡ length scratch₀))
 
 abbrev μ-loop : tie.MeasureT-loop
-μ-loop book text copy phrase₀ scratch₀ entries₀ index₀ at₀ place₀ phrase scratch entries index at place =
-    length book - place
+μ-loop book count text copy phrase₀ scratch₀ entries₀ index₀ at₀ place₀ phrase scratch entries index at place =
+    count - index
 
 -- the next cue of the book, and where it stands
 next : (i : tie.In-loop Inv-loop μ-loop) → let l = i .before in Next (l .before .before .before .before .before .before .before .args .book .now) (l .loop .inv .0 .more) (l .loop .index) (l .loop .place) (l .loop .inv .0 .rest)
-next i = doing-cue (i .before .loop .inv .0) (i .loop-test .taken)
+next i = doing-cue (i .before .loop .inv .0) (omega (arith, i .loop-test .taken, i .before .before .before .before .before .before .before .before .pre .number))
 
 module _ (k : tie.After-known-told Inv-loop μ-loop) where
   this : let g = k .before .cue .given .0 in let l = k .before .before .before .before .before in
@@ -152,7 +152,7 @@ add-at : tie.Need-add-at Inv-loop μ-loop
 add-at c = let d = c .before .before .before .before .before .before .before .before .before .before .before .before .before .before .before .before .before .before .before .before .loop .inv .0 in omega (arith, d .three, d .left)
 
 loop-less : tie.Need-loop-less Inv-loop μ-loop
-loop-less c = let k = c .before .before .before .before .before .before .before .before .before .before .before .before .before .before .before in let e = this k .end-is in omega (arith, e, k .before .before .before .before .loop-test .taken)
+loop-less c = omega (arith, c .before .before .before .before .before .before .before .before .before .before .before .before .before .before .before .before .before .before .before .loop-test .taken)
 
 loop-again : tie.Need-loop-again Inv-loop μ-loop
 loop-again c =
@@ -176,7 +176,7 @@ same-length-9 : tie.Need-same-length-9 Inv-loop μ-loop
 same-length-9 c = kept (c .before)
 
 returns-3 : tie.Need-returns-3 Inv-loop μ-loop
-returns-3 c = let d = c .before .loop .inv .0 in placed (doing-end d (c .loop-test .left)) (d .entered)
+returns-3 c = let l = c .before in let d = l .loop .inv .0 in placed (doing-end d (omega (arith, c .loop-test .left, l .before .before .before .before .before .before .before .pre .number))) (d .entered)
 
 pub resolve-cues-spec : {M : Type 1} → statement M
 resolve-cues-spec =
