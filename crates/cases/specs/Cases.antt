@@ -2,7 +2,7 @@
 use Prim.Native.Nat.{ℕ, suc, _-_}
 use mathlib.Core.Bool.{Bool, true, false, cond, _&&_}
 use mathlib.Core.List.{List, [], _∷_}
-use lib.ListN.{length, replicate}
+use lib.ListN.{length}
 use lib.Dec.{eqb}
 use Rattle.matching.specs.Occurrences.{same, occurrences}
 use Rattle.matching.specs.Machine.{run, runFrom, positionsIn}
@@ -10,7 +10,12 @@ use Rattle.matching.specs.Find.{Engine, compared}
 use Rattle.shifts.specs.Tables.{tabulate}
 use Rattle.shifts.specs.BadCharacter.{lastIn, sundayTable, horspoolTable}
 use Rattle.shifts.specs.Kmp.{kmpEntry, kmpTable}
+use Rattle.naive.specs.Naive.{naive}
+use Rattle.kmp.specs.Kmp.{kmp}
+use Rattle.horspool.specs.Horspool.{horspool}
+use Rattle.sunday.specs.Sunday.{sunday}
 use Rattle.fjs.specs.Fjs.{window, fjs}
+use Rattle.double_window.specs.DoubleWindow.{doubleWindow}
 use Rattle.fold.specs.Fold.{folded}
 use Rattle.cue_book.specs.Format.{Cue, cueWith, bookBytes}
 use Rattle.cue_book.specs.Reading.{Reading, refused, cues, readBook}
@@ -19,10 +24,10 @@ use Rattle.resolver.specs.Resolver.{Outcome, outcome}
 -- a row: what is asked, and the answer that document 01 gives
 pub data Case : Type 0 where
   -- the KMP entries b[1] to b[m + 1] of a pattern, and the moves j - b[j] of source document 001, example 1
-  kmp : List ℕ → List ℕ → List ℕ → Case
+  kmpEntries : List ℕ → List ℕ → List ℕ → Case
   -- all 256 Sunday or Horspool entries of a pattern: those of some letters, one after another, and that of every other letter
-  sunday : List ℕ → List ℕ → List ℕ → ℕ → Case
-  horspool : List ℕ → List ℕ → List ℕ → ℕ → Case
+  sundayEntries : List ℕ → List ℕ → List ℕ → ℕ → Case
+  horspoolEntries : List ℕ → List ℕ → List ℕ → ℕ → Case
   -- a find by an engine's steps: the pattern, the text, the positions and the comparisons
   find : Engine → List ℕ → List ℕ → List ℕ → ℕ → Case
   -- a letter, and what it folds to
@@ -65,13 +70,13 @@ comesTo o refusal number entries = eqb (o .resolution .refusal) refusal && eqb (
 -- a row holds: the definitions give its answer
 unfoldable pub holds : Case → Bool
 unfolding same tabulate lastIn kmpEntry given movesFrom occurrences runFrom positionsIn compared window folded readsAs readBook bookBytes comesTo outcome
-holds (kmp P entries moves) = same (kmpTable P) entries && same (movesFrom 0 (kmpTable P)) moves
-holds (sunday P letters entries others) = same (sundayTable P) (tabulate 256 (given letters entries others))
-holds (horspool P letters entries others) = same (horspoolTable P) (tabulate 256 (given letters entries others))
+holds (kmpEntries P entries moves) = same (kmpTable P) entries && same (movesFrom 0 (kmpTable P)) moves
+holds (sundayEntries P letters entries others) = same (sundayTable P) (tabulate 256 (given letters entries others))
+holds (horspoolEntries P letters entries others) = same (horspoolTable P) (tabulate 256 (given letters entries others))
 holds (find e P T positions comparisons) = same (occurrences P T) positions && same (positionsIn (run (e .steps) P T)) positions && eqb (compared e P T) comparisons
 holds (fold letter small) = eqb (folded letter) small
 holds (book bytes cs) = readsAs (readBook bytes) cs && same (bookBytes cs) bytes
-holds (resolve bytes T refusal number entries) = comesTo (outcome bytes T (replicate (length T) 0) (replicate 1024 0) (replicate 1281 0) (replicate 3 0)) refusal number entries
+holds (resolve bytes T refusal number entries) = comesTo (outcome bytes T (record { copy = length T; phrase = 1024; scratch = 1281; entries = 3 })) refusal number entries
 
 -- every row holds
 unfoldable pub allHold : List Case → Bool
@@ -108,16 +113,21 @@ laNo = 0x01 ∷ 0x00 ∷ 0x02 ∷ 0x6C ∷ 0x61 ∷ 0x02 ∷ 0x00 ∷ 0x02 ∷ 0
 -- the table
 unfoldable pub cases : List Case
 cases =
-    kmp abaaca (0 ∷ 1 ∷ 0 ∷ 2 ∷ 2 ∷ 0 ∷ 2 ∷ []) (1 ∷ 1 ∷ 3 ∷ 2 ∷ 3 ∷ 6 ∷ 5 ∷ [])
-    ∷ sunday abaaca (a ∷ b ∷ c ∷ []) (1 ∷ 5 ∷ 2 ∷ []) 7
-    ∷ horspool abaaca (a ∷ b ∷ c ∷ []) (2 ∷ 4 ∷ 1 ∷ []) 6
+    kmpEntries abaaca (0 ∷ 1 ∷ 0 ∷ 2 ∷ 2 ∷ 0 ∷ 2 ∷ []) (1 ∷ 1 ∷ 3 ∷ 2 ∷ 3 ∷ 6 ∷ 5 ∷ [])
+    ∷ sundayEntries abaaca (a ∷ b ∷ c ∷ []) (1 ∷ 5 ∷ 2 ∷ []) 7
+    ∷ horspoolEntries abaaca (a ∷ b ∷ c ∷ []) (2 ∷ 4 ∷ 1 ∷ []) 6
     ∷ find fjs (a ∷ b ∷ a ∷ []) (a ∷ a ∷ a ∷ a ∷ a ∷ []) [] 9
     ∷ find fjs (a ∷ b ∷ a ∷ []) (a ∷ a ∷ a ∷ []) [] 3
     ∷ find fjs (a ∷ b ∷ a ∷ []) (a ∷ b ∷ a ∷ []) (0 ∷ []) 3
     ∷ find fjs (a ∷ a ∷ []) (a ∷ a ∷ a ∷ []) (0 ∷ 1 ∷ []) 3
     ∷ find fjs (a ∷ []) (a ∷ a ∷ a ∷ []) (0 ∷ 1 ∷ 2 ∷ []) 3
     ∷ find fjs (b ∷ []) (a ∷ a ∷ a ∷ []) [] 2
+    ∷ find naive (a ∷ b ∷ []) (a ∷ []) [] 0
+    ∷ find kmp (a ∷ b ∷ []) (a ∷ []) [] 0
+    ∷ find horspool (a ∷ b ∷ []) (a ∷ []) [] 0
+    ∷ find sunday (a ∷ b ∷ []) (a ∷ []) [] 0
     ∷ find fjs (a ∷ b ∷ []) (a ∷ []) [] 0
+    ∷ find doubleWindow (a ∷ b ∷ []) (a ∷ []) [] 0
     ∷ fold 0xC9 0xE9
     ∷ fold 0xD7 0xD7
     ∷ fold 0xDF 0xDF
