@@ -45,8 +45,12 @@ sundays {P} r = first-entries 256 (length P + 1) (sundayEntry P) (kmpEntry P) (r
 kmps : {P T scratch : List ℕ} → Ready P T scratch → EntriesFrom 256 (length P + 1) (kmpEntry P) scratch
 kmps {P} r = second-entries 256 (length P + 1) (sundayEntry P) (kmpEntry P) (r .rest) (r .tables)
 
+-- the window lies in the text
+within : (i : tie.In-loop Inv-loop2 μ-loop2 Inv-loop μ-loop) → let l = i .before in let a = l .before .before .before .before .before .args in l .loop .s + length (a .pattern .now) ≤ length (a .text .now)
+within i = omega (arith, i .loop-test .taken)
+
 -- the comparing left to right begins
-begun : (j : tie.Joined1 Inv-loop2 μ-loop2 Inv-loop μ-loop) → let l = j .before .before in Begun (l .loop .inv .0) (j .before .loop-test .taken) (j .if1 .until) (j .if1 .compared)
+begun : (j : tie.Joined1 Inv-loop2 μ-loop2 Inv-loop μ-loop) → let l = j .before .before in Begun (l .loop .inv .0) (within (j .before)) (j .if1 .until) (j .if1 .compared)
 begun j =
     let l = j .before .before in
     ⊎-elim
@@ -56,7 +60,7 @@ begun j =
 
 until-le : (j : tie.Joined1 Inv-loop2 μ-loop2 Inv-loop μ-loop) → let l = j .before .before in let a = l .before .before .before .before .before .args in
     (j .if1 .until ≤ length (a .pattern .now)) × ((l .loop .q ≤ j .if1 .until) × (j .if1 .compared ≤ l .loop .compared + 1))
-until-le j = let l = j .before .before in begun-le (l .loop .inv .0) (j .before .loop-test .taken) (begun j)
+until-le j = let l = j .before .before in begun-le (l .loop .inv .0) (within (j .before)) (begun j)
 
 -- the inner loop left before its end: the letters differ
 differs : (d : tie.Left-loop2 Inv-loop2 μ-loop2 Inv-loop μ-loop) → d .before .loop2 .k < d .before .before .if1 .until
@@ -78,7 +82,7 @@ stepped j =
     let l = i .before .before .before in
     let p = l .loop .inv .0 in
     let u = l .loop .inv .1 .1 in
-    let h = i .before .before .loop-test .taken in
+    let h = within (i .before .before) in
     let g = begun (i .before) in
     let le = until-le (i .before) in
     let inv = i .loop2 .inv in
@@ -275,7 +279,7 @@ same-length : tie.Need-same-length Inv-loop2 μ-loop2 Inv-loop μ-loop
 same-length c = same-list (c .before .loop .inv .0)
 
 returns : tie.Need-returns Inv-loop2 μ-loop2 Inv-loop μ-loop
-returns c = let l = c .before in searched-all (past (l .loop .inv .0) (c .loop-test .left)) (l .loop .inv .1 .1)
+returns c = let l = c .before in searched-all (past (l .loop .inv .0) (omega (arith, c .loop-test .left))) (l .loop .inv .1 .1)
 
 same-length-2 : tie.Need-same-length-2 Inv-loop2 μ-loop2 Inv-loop μ-loop
 same-length-2 c = same-list (c .before .before .before .before .before .before .loop .inv .0)
@@ -294,7 +298,7 @@ returns-3 c =
     let i = c .before .before .before .before .before .before .before .before in
     let l = i .before .before .before in
     let p = l .loop .inv .0 in
-    let h = i .before .before .loop-test .taken in
+    let h = within (i .before .before) in
     let g = begun (i .before) in
     let inv = i .loop2 .inv in
     let all : i .loop2 .k ≡ i .before .if1 .until = omega (arith, c .before .before .before .before .before .if5 .left, inv .1 .1) in

@@ -49,7 +49,7 @@ stepped j =
     let p = l .loop .inv .0 in
     let is = passed (j .before) in
     ⊎-elim
-    (λ w. rw (w .1, w .2, w .3) (miss-down p (omega arith) m refl is (w .0 .taken) (omega arith)))
+    (λ w. rw (w .1, w .2, w .3) (miss-down p (omega arith) m refl is (omega (arith, w .0 .taken)) (omega arith)))
     (λ w. rw (w .5, w .6, w .7, w .2 .ensures) (hit-down p (omega arith) m refl is (omega (arith, w .0 .left, passed-le (j .before))) (omega arith)))
     (j .if2 .came)
 

@@ -49,7 +49,7 @@ stepped c =
     let p = j .before .before .before .before .before .before .loop .inv .0 in
     let is = reached j in
     ⊎-elim
-    (λ w. rw (w .1, w .2, w .3) (miss-up p (omega arith) refl is (w .0 .taken) (omega arith)))
+    (λ w. rw (w .1, w .2, w .3) (miss-up p (omega arith) refl is (omega (arith, w .0 .taken)) (omega arith)))
     (λ w. rw (w .5, w .6, w .7, w .2 .ensures) (hit-up p (omega arith) refl is (omega (arith, w .0 .left, j .before .loop2 .inv .1)) (omega arith)))
     (c .if4 .came)
 
