@@ -28,8 +28,8 @@ add-line c =
     let text = c .before .before .before .args .text .now in
     let end = c .before .if1 .end in
     let is : c .count-breaks .result ≡ breaks (take end text) = c .count-breaks .ensures in
-    let small : c .count-breaks .result + 1 < 2 ^ 64 = omega (arith, is, ended (c .before) .0, breaks-few (take end text), length-take-le end text (ended (c .before) .0), c .before .before .before .good .0 .1) in
-    record { fits = small }
+    let few : c .count-breaks .result ≤ length text = omega (arith, is, ended (c .before) .0, breaks-few (take end text), length-take-le end text (ended (c .before) .0)) in
+    omega (arith, few, c .before .before .before .good .0 .1)
 
 count-back-requires : tie.Need-count-back-requires
 count-back-requires c κs = ended (c .before) .0

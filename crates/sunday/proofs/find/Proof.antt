@@ -70,10 +70,10 @@ over d =
     let l = d .before in
     let a = l .before .before .before .before .before .before .before .before .before .before .before .args in
     ⊎-elim
-    (λ w. rw (w .1, w .2, w .3) (past (l .loop .inv .0) (w .0 .left)))
+    (λ w. rw (w .1, w .2, w .3) (past (l .loop .inv .0) (omega (arith, w .0 .left))))
     (λ w.
     let j : tie.Joined3 Inv-loop2 μ-loop2 Inv-loop μ-loop = record { before = record { before = record { before = record { before = l; loop-test = w .0 }; loop2 = w .1 }; loop2-test = w .2 }; if3 = w .3 } in
-    rw (w .5, w .6, w .7) (stopped (rw (sunday-stop (a .pattern .now) (a .text .now) (l .loop .s) (w .4 .taken)) at (stepped j))))
+    rw (w .5, w .6, w .7) (stopped (rw (sunday-stop (a .pattern .now) (a .text .now) (l .loop .s) (omega (arith, w .4 .taken))) at (stepped j))))
     (d .loop-test .came)
 
 -- the move: the table's entry of the letter after the window
