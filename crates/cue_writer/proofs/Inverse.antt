@@ -11,7 +11,7 @@ use lib.Seq.{drop-drop, getD-drop, take-append-seam, drop-append-seam, length-ta
 use lib.Dec.{eqb, leb}
 use borrow.Author.Tests.{eq-eqb, ne-eqb, le-leb, leb-true, eqb-false}
 use Rattle.matching.proofs.Tests.{both}
-use Rattle.pieces.proofs.Laid.{joined}
+use Rattle.pieces.specs.Pieces.{joined}
 use Rattle.cue_book.specs.declared.Answer.{Answer}
 use Rattle.cue_book.specs.declared.CueAnswer.{CueAnswer}
 use Rattle.cue_fields.specs.declared.Due.{Due}

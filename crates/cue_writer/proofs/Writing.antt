@@ -8,8 +8,8 @@ use lib.ListN.{length, drop, length-append}
 use lib.Dec.{eqb, ltb}
 use borrow.Author.Tests.{eq-eqb, ne-eqb, lt-ltb, le-ltb, eqb-true, ltb-true, ltb-false, eqb-false}
 use Rattle.matching.proofs.Tests.{by-test}
-use Rattle.pieces.specs.Pieces.{Filled, putAll, Laid}
-use Rattle.pieces.proofs.Laid.{joined, laid-all}
+use Rattle.pieces.specs.Pieces.{joined, putAll, Laid}
+use Rattle.pieces.proofs.Laid.{laid-front}
 use Rattle.cue_fields.specs.Field.{twoBytes, fieldBytes}
 use Rattle.cue_book.specs.Format.{Cue, cueBytes, Valid}
 use Rattle.cue_fields.proofs.Fielded.{clash}
@@ -112,11 +112,8 @@ joined-cue c = ap (λ (l : List ℕ). fieldBytes 1 (c .phrase) ++ (fieldBytes 2 
 pub laid-cue : (c : Cue) (buffer : List ℕ) {at : ℕ} {buffer′ : List ℕ} → length (cueBytes c) ≤ length buffer → Laid buffer′ at (putAll buffer 0 (cuePieces c))
     → (at ≡ length (cueBytes c)) × (buffer′ ≡ cueBytes c ++ drop (length (cueBytes c)) buffer)
 laid-cue c buffer room l =
-    let none : 0 + length (joined (cuePieces c)) ≡ length (joined (cuePieces c)) = omega arith in
-    let all = laid-all (cuePieces c) buffer 0 (omega (arith, ap length (joined-cue c))) in (
-      l .next ∙ ap (λ (f : Filled). f .next) all ∙ none ∙ ap length (joined-cue c),
-      l .bytes ∙ ap (λ (f : Filled). f .bytes) all ∙ ap (λ (n : ℕ). joined (cuePieces c) ++ drop n buffer) none ∙ ap (λ (x : List ℕ). x ++ drop (length x) buffer) (joined-cue c),
-    )
+    let whole = laid-front (cuePieces c) buffer (omega (arith, ap length (joined-cue c))) l in
+    (whole .0 ∙ ap length (joined-cue c), whole .1 ∙ ap (λ (x : List ℕ). x ++ drop (length x) buffer) (joined-cue c))
 
 module _ {c : Cue} {buffer : List ℕ} where
   pub written-refused : {number : ℕ} → number ≡ writeRefusal c (length buffer) → (number ≡ 0 → ⊥) → Written c buffer (record { refusal = number; number = 0 }) buffer

@@ -8,7 +8,7 @@ use lib.Seq.{length-take-le, take-at, drop-at, drop-drop}
 use lib.Dec.{leb}
 use borrow.Author.Tests.{le-leb, lt-leb, leb-true, leb-false}
 use Rattle.matching.proofs.Tests.{by-test}
-use Rattle.pieces.specs.Pieces.{Filled, put, putAll, Laid}
+use Rattle.pieces.specs.Pieces.{Filled, joined, put, putAll, Laid}
 
 -- a piece fits, and it does not
 pub put-fits : (buffer : List ℕ) (at : ℕ) (piece : List ℕ) → at + length piece ≤ length buffer → put buffer at piece ≡ record { bytes = take at buffer ++ piece ++ drop (at + length piece) buffer; next = at + length piece }
@@ -46,6 +46,9 @@ all-append buffer at (piece ∷ first) then = all-append (put buffer at piece .b
 -- ---- what code has laid, joined
 
 module _ (buffer₀ : List ℕ) (at : ℕ) where
+  pub laid-none : Laid buffer₀ at (putAll buffer₀ at [])
+  laid-none = rw (all-none buffer₀ at) (record { bytes = refl; next = refl })
+
   pub laid-one : (piece : List ℕ) {buffer : List ℕ} {r : ℕ} → Laid buffer r (put buffer₀ at piece) → Laid buffer r (putAll buffer₀ at (piece ∷ []))
   laid-one piece l = rw (all-one buffer₀ at piece [], all-none (put buffer₀ at piece .bytes) (put buffer₀ at piece .next)) (record { bytes = l .bytes; next = l .next })
 
@@ -62,11 +65,6 @@ module _ (buffer₀ : List ℕ) (at : ℕ) where
       record { bytes = m .bytes ∙ ap (λ (f : Filled). f .bytes) e; next = m .next ∙ ap (λ (f : Filled). f .next) e }
 
 -- ---- a buffer with room for all pieces holds them all, one after another, and keeps the rest
-
--- the bytes of the pieces
-unfoldable pub joined : List (List ℕ) → List ℕ
-joined [] = []
-joined (piece ∷ pieces) = piece ++ joined pieces
 
 pub laid-all : (pieces : List (List ℕ)) (buffer : List ℕ) (at : ℕ) → at + length (joined pieces) ≤ length buffer
     → putAll buffer at pieces ≡ record { bytes = take at buffer ++ joined pieces ++ drop (at + length (joined pieces)) buffer; next = at + length (joined pieces) }
@@ -97,3 +95,17 @@ laid-all (piece ∷ pieces) buffer at h =
   where
     end : (at p j n : ℕ) → n ≡ p + j → at + p + j ≡ at + n
     end at p j n e = omega arith
+
+-- laid from the buffer's front on
+pub laid-front : (pieces : List (List ℕ)) (buffer : List ℕ) {r : ℕ} {buffer′ : List ℕ} → length (joined pieces) ≤ length buffer → Laid buffer′ r (putAll buffer 0 pieces)
+    → (r ≡ length (joined pieces)) × (buffer′ ≡ joined pieces ++ drop (length (joined pieces)) buffer)
+laid-front pieces buffer room l =
+    let none : 0 + length (joined pieces) ≡ length (joined pieces) = omega arith in
+    let all = laid-all pieces buffer 0 (omega arith) in
+    (l .next ∙ ap (λ (f : Filled). f .next) all ∙ none, l .bytes ∙ ap (λ (f : Filled). f .bytes) all ∙ ap (λ (n : ℕ). joined pieces ++ drop n buffer) none)
+
+-- the bytes of pieces after pieces are the bytes of the first, then those of the others
+pub joined-append : (first then : List (List ℕ)) → joined (first ++ then) ≡ joined first ++ joined then
+unfolding joined
+joined-append [] then = refl
+joined-append (piece ∷ first) then = ap (λ (l : List ℕ). piece ++ l) (joined-append first then) ∙ sym (append-assoc piece (joined first) (joined then))

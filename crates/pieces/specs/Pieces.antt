@@ -6,6 +6,11 @@ use mathlib.Core.List.{List, [], _∷_, _++_}
 use lib.ListN.{length, take, drop}
 use lib.Dec.{leb}
 
+-- the bytes of all pieces, one after another
+unfoldable pub joined : List (List ℕ) → List ℕ
+joined [] = []
+joined (piece ∷ pieces) = piece ++ joined pieces
+
 -- a buffer, and where its next piece goes
 pub record Filled : Type 0 where
   pub bytes : List ℕ

@@ -7,7 +7,7 @@ use native.Mathlib.Numerals.{add-one}
 use mathlib.Core.List.{List, [], _∷_}
 use lib.ListN.{length, getD}
 use Rattle.pieces.specs.Pieces.{putAll, Laid}
-use Rattle.pieces.proofs.Laid.{length-put, all-none, laid-one, laid-then}
+use Rattle.pieces.proofs.Laid.{length-put, laid-none, laid-one, laid-then}
 use Rattle.lines.specs.Lines.{field, fields}
 use Rattle.lines.proofs.Fields.{fields-none, fields-next, fields-min}
 use Rattle.lines.proofs.put_numbers.Statement.{statement}
@@ -20,7 +20,7 @@ abbrev μ-loop : tie.MeasureT-loop
 μ-loop buffer₀ at list count end next₀ i₀ buffer next i = end - i
 
 start : (buffer : List ℕ) (at : ℕ) (list : List ℕ) → Laid buffer at (putAll buffer at (fields 0 list))
-start buffer at list = rw (fields-none list, all-none buffer at) (record { bytes = refl; next = refl })
+start buffer at list = rw (fields-none list) (laid-none buffer at)
 
 more : (buffer₀ : List ℕ) (at i : ℕ) (list : List ℕ) {buffer buffer′ : List ℕ} {r r′ : ℕ} → i < length list → Laid buffer r (putAll buffer₀ at (fields i list))
     → Laid buffer′ r′ (putAll buffer r (field (getD list i 0) ∷ [])) → Laid buffer′ r′ (putAll buffer₀ at (fields (i + 1) list))
