@@ -1,9 +1,12 @@
 -- The fields of a list's numbers, one by one. Assumes nothing.
-use mathlib.Core.Path.{_≡_, refl, ap}
+use mathlib.Core.Path.{_≡_, refl, sym, ap, _∙_}
 use Prim.Native.Nat.{ℕ, zero, suc, _<_, min}
 use native.Mathlib.Omega.{arith}
-use mathlib.Core.List.{List, [], _∷_, _++_}
-use lib.ListN.{length, getD}
+use mathlib.Core.List.{List, [], _∷_, _++_, map}
+use lib.ListN.{length, getD, take, length-take}
+use lib.Seq.{take-all}
+use Rattle.matching.specs.Received.{received}
+use Rattle.matching.proofs.Received.{received-front}
 use Rattle.lines.specs.Lines.{field, fields}
 
 -- the fields of one number more, and of all
@@ -22,3 +25,8 @@ unfolding fields
 fields-min zero list = let e : min 0 (length list) ≡ 0 = omega arith in rw e
 fields-min (suc count) [] = let e : min (suc count) 0 ≡ 0 = omega arith in rw e
 fields-min (suc count) (x ∷ list) = let e : min (suc count) (suc (length list)) ≡ suc (min count (length list)) = omega arith in rw e (ap (λ (l : List (List ℕ)). field x ∷ l) (fields-min count list))
+
+-- of a list that received values, as many as there are values: the fields of those that it had places for
+pub fields-received : (list values : List ℕ) → fields (length values) (received list values) ≡ fields (length values) (take (length list) values)
+unfolding fields
+fields-received list values = ap (map field) (received-front list values ∙ sym (take-all (length values) (take (length list) values) (omega (arith, length-take (length list) values))))

@@ -13,7 +13,7 @@ use Rattle.matching.specs.Occurrences.{occurrences}
 use Rattle.matching.specs.Received.{received}
 use Rattle.matching.specs.Machine.{runFrom, comparedIn}
 use Rattle.matching.specs.Find.{refusal, Engine, compared, refusalOf, Found}
-use Rattle.matching.proofs.Tests.{by-test}
+use Rattle.matching.proofs.Tests.{by-test, cond-most}
 use Rattle.matching.proofs.Received.{received-none}
 use Rattle.matching.proofs.Occurrences.{occurrences-none}
 use Rattle.matching.proofs.Machine.{windows-off}
@@ -47,6 +47,17 @@ within m n has needs e =
 pub none-refused : (m n has needs : ℕ) → Within m n has needs → refusal m n has needs ≡ 0
 unfolding refusal
 none-refused m n has needs w = rw (ne-eqb m 0 (λ e. omega (arith, w .some)), le-ltb 1024 m (w .short), le-ltb 32768 n (w .small), le-ltb has needs (w .room))
+
+-- a refusal's number is at most 5
+pub refusal-most : (m n has needs : ℕ) → refusal m n has needs ≤ 5
+unfolding refusal
+refusal-most m n has needs =
+    let two : 2 ≤ 5 = omega arith in
+    let three : 3 ≤ 5 = omega arith in
+    let four : 4 ≤ 5 = omega arith in
+    let five : 5 ≤ 5 = omega arith in
+    let zero : 0 ≤ 5 = omega arith in
+    cond-most (eqb m 0) two (cond-most (ltb 1024 m) three (cond-most (ltb 32768 n) four (cond-most (ltb has needs) five zero)))
 
 -- a pattern longer than the text, of any lengths: no window lies in the text, so no engine compares a pair
 pub longer-costs : (e : Engine) (P T : List ℕ) → length T < length P → compared e P T ≡ 0

@@ -2,21 +2,16 @@
 -- Assumes nothing.
 use borrow.Author.Needs.{needs}
 use mathlib.Core.Path.{_≡_, refl, sym, ap, subst, _∙_}
-use Prim.Native.Nat.{ℕ, zero, suc, _+_, _-_, _*_, _/_, _%_, _≤_, _<_}
+use Prim.Native.Nat.{ℕ, zero, suc, _+_, _-_, _/_, _%_, _≤_, _<_}
 use native.Mathlib.Omega.{arith}
 use mathlib.Core.List.{List, [], _∷_, _++_, append-nil, append-assoc}
 use lib.ListN.{length, getD, drop, set, length-set, length-drop, getD-replicate, replicate}
 use lib.Seq.{drop-cons, drop-set-lt, getD-set-same, getD-set-other, take-all}
 use Rattle.pieces.specs.Pieces.{put, Laid}
 use Rattle.lines.specs.Lines.{decimal, field}
-use Rattle.lines.proofs.Decimal.{decimal-one, decimal-more}
+use Rattle.lines.proofs.Decimal.{tens, decimal-one, decimal-more}
 use Rattle.lines.proofs.put_number.Statement.{statement}
 use Rattle.lines.proofs.put_number.Tie as tie
-
--- 10 to a power
-tens : ℕ → ℕ
-tens zero = 1
-tens (suc k) = 10 * tens k
 
 -- two digits are left at least where the rest is not below 10
 room : (rest i : ℕ) → 1 ≤ i → i ≤ 10 → 10 ≤ rest → rest < tens i → (2 ≤ i) × (rest / 10 < tens (i - 1))
