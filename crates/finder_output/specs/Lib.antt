@@ -1,0 +1,2 @@
+-- What the finder program prints.
+pub mod Printed

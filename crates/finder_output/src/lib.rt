@@ -1,0 +1,76 @@
+// What the finder program of document 01 prints, as one function over slices: it splits the input into phrase and text, and lays out one line an engine, or one refusal.
+// It depends on `matching` for the refusals, on `find` for the finds, and on `lines` for every byte of the output. The program `finder` only reads and writes.
+// The contract is an equation for every input (specs/Printed.antt); the output's size is shown to be enough (proofs/Fits.antt), so no line is ever left out.
+ghost use mathlib.Core.Path.{_≡_};
+ghost use Prim.Native.Nat.{_≤_};
+ghost use lib.ListN.{length};
+ghost use Rattle.matching.specs.Find.{refusal};
+ghost use Rattle.find.specs.Find.{engineOf};
+ghost use Rattle.pieces.specs.Pieces.{Laid, putAll};
+ghost use Rattle.finder_output.specs.Printed.{phraseIn, engineLine, answered, Printed};
+
+// The length of the phrase: the place of the first byte 10, or the input's length where there is none.
+fn phrase_end(input: &[u8]) -> usize
+    ensures { λ r. ⌜ r ≡ length (phraseIn (now (input .entry))) ⌝ }
+{
+    let mut i = 0;
+    while i < input.len() {
+        if input[i] == 10 {
+            return i;
+        }
+        i += 1;
+    }
+    i
+}
+
+// Puts the line of one engine from `at` on: where the next line goes. The caller has met no refusal, and 1,281 scratch entries are enough for methods 0 to 4.
+fn put_engine(
+    method: u32,
+    name: &[u8],
+    phrase: &[u8],
+    text: &[u8],
+    output: &mut [u8],
+    at: usize,
+) -> usize
+    requires { ⌜ method ≤ 4 ⌝ }
+    requires { ⌜ refusal (length (now phrase)) (length (now text)) 0 0 ≡ 0 ⌝ }
+    ensures { λ r. ⌜ Laid (now (output .exit)) r (putAll (now (output .entry)) at (engineLine (record { name = now (name .entry); engine = engineOf method }) (now (phrase .entry)) (now (text .entry)))) ⌝ }
+{
+    let mut scratch = [0; 1281];
+    let mut list = [0; 4096];
+    let r = find::find(method, phrase, text, &mut scratch, &mut list);
+    lines::put_line(output, at, name, r.total, r.comparisons, &list)
+}
+
+// Puts all lines for a phrase and a text. All engines refuse alike, so the refusal is tested once, before any of them; a scratch is never too short here.
+fn put_answer(phrase: &[u8], text: &[u8], output: &mut [u8]) -> usize
+    ensures { λ r. ⌜ Laid (now (output .exit)) r (putAll (now (output .entry)) 0 (answered (now (phrase .entry)) (now (text .entry)))) ⌝ }
+{
+    let number = matching::refused(phrase.len(), text.len(), 0, 0);
+    if number != 0 {
+        return lines::put_refused(output, 0, number);
+    }
+    let mut at = put_engine(0, b"naive", phrase, text, output, 0);
+    at = put_engine(1, b"kmp", phrase, text, output, at);
+    at = put_engine(2, b"horspool", phrase, text, output, at);
+    at = put_engine(3, b"sunday", phrase, text, output, at);
+    put_engine(4, b"fjs", phrase, text, output, at)
+}
+
+// Puts what the finder prints for an input at the output's front: how many bytes these are. An output below 131,072 bytes stays as it is, and 0 is given back.
+pub fn print_answer(input: &[u8], output: &mut [u8]) -> usize
+    ensures { λ r. ⌜ Printed (now (input .entry)) (now (output .entry)) r (now (output .exit)) ⌝ }
+{
+    if output.len() < 131072 {
+        return 0;
+    }
+    if 33793 < input.len() {
+        return lines::put_refused(output, 0, 4);
+    }
+    let end = phrase_end(input);
+    let mut start = end;
+    if end < input.len() {
+        start = end + 1;
+    }
+    put_answer(&input[..end], &input[start..], output)
+}
