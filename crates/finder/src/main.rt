@@ -5,7 +5,7 @@
 // length given back needs no test.
 fn main() {
     let mut input = [0; 33794];
-    let mut output = [0; 131072];
+    let mut output = [0; 262144];
     let got = io::read_full(0, &mut input);
     let length = finder_output::print_answer(&input[..got], &mut output);
     io::write_all(1, &output[..length]);

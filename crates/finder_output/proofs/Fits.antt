@@ -1,4 +1,4 @@
--- All that is printed for an input fits the output of 131,072 bytes: five lines of at most 24,600 bytes each, or one refusal. Assumes nothing.
+-- All that is printed for an input fits the output of `outputSize` bytes: five lines of at most 24,600 bytes each, or one refusal. Assumes nothing.
 use mathlib.Core.Path.{_≡_, ap}
 use Prim.Native.Nat.{ℕ, _*_, _≤_, _<_}
 use native.Mathlib.Omega.{arith}
@@ -14,7 +14,7 @@ use Rattle.matching.specs.Find.{compared, refusal}
 use Rattle.matching.proofs.Tests.{by-test}
 use Rattle.matching.proofs.Occurrences.{occurrences-few, occurrences-below}
 use Rattle.matching.proofs.Machine.{Sound}
-use Rattle.matching.proofs.Find.{Within, within, refusal-low}
+use Rattle.matching.proofs.Find.{Within, within, refusal-most}
 use Rattle.matching.proofs.Progress.{compared-fits}
 use Rattle.naive.proofs.Sound as naive
 use Rattle.kmp.proofs.Sound as kmp
@@ -26,10 +26,10 @@ use Rattle.pieces.proofs.Laid.{joined-append}
 use Rattle.lines.specs.Lines.{fields, refusedLine}
 use Rattle.lines.proofs.Decimal.{tens, decimal-short}
 use Rattle.lines.proofs.Lengths.{fields-short, line-length, refused-length}
-use Rattle.finder_output.specs.Printed.{phraseIn, textIn, Row, rows, engineLine, engineLines, answered, printed, Printed}
+use Rattle.finder_output.specs.Printed.{phraseIn, textIn, Row, rows, engineLine, engineLines, answered, printed, outputSize, Printed}
 
 -- a refusal's line
-refused-fits : (number : ℕ) → number < 10 → length (joined (refusedLine number)) ≤ 131072
+refused-fits : (number : ℕ) → number < 10 → length (joined (refusedLine number)) ≤ outputSize
 unfolding tens
 refused-fits number h = omega (arith, refused-length number, decimal-short 0 number h)
 
@@ -69,7 +69,7 @@ module _ (P T : List ℕ) (short : length P ≤ 1024) (small : length T ≤ 3276
       (omega
       (arith, ap length (joined-append (engineLine row P T) (engineLines others P T)), length-append (joined (engineLine row P T)) (joined (engineLines others P T)), line-fits row (f .0 .0) (f .0 .1), lines-fit others (f .1)))
 
-all-fit : (P T : List ℕ) → Within (length P) (length T) 0 0 → length (joined (engineLines rows P T)) ≤ 131072
+all-fit : (P T : List ℕ) → Within (length P) (length T) 0 0 → length (joined (engineLines rows P T)) ≤ outputSize
 unfolding rows
 all-fit P T w =
     omega (
@@ -78,23 +78,23 @@ all-fit P T w =
           ((omega arith, naive.sound P T (w .some)), ((omega arith, kmp.sound P T (w .some)), ((omega arith, horspool.sound P T (w .some)), ((omega arith, sunday.sound P T (w .some)), ((omega arith, fjs.sound P T (w .some)), tt))))),
     )
 
-answered-fits : (P T : List ℕ) → length (joined (answered P T)) ≤ 131072
+answered-fits : (P T : List ℕ) → length (joined (answered P T)) ≤ outputSize
 unfolding answered
 answered-fits P T =
     let number : ℕ = refusal (length P) (length T) 0 0 in
-    by-test (λ t. length (joined (cond t (engineLines rows P T) (refusedLine number))) ≤ 131072) (eqb number 0)
+    by-test (λ t. length (joined (cond t (engineLines rows P T) (refusedLine number))) ≤ outputSize) (eqb number 0)
     (λ e. all-fit P T (within (length P) (length T) 0 0 (eqb-true number 0 e)))
-    (λ _. refused-fits number (omega (arith, refusal-low (length P) (length T) 0 0)))
+    (λ _. refused-fits number (omega (arith, refusal-most (length P) (length T) 0 0)))
 
-pub printed-fits : (input : List ℕ) → length (printed input) ≤ 131072
+pub printed-fits : (input : List ℕ) → length (printed input) ≤ outputSize
 unfolding printed
 printed-fits input =
-    by-test (λ t. length (joined (cond t (refusedLine 4) (answered (phraseIn input) (textIn input)))) ≤ 131072) (ltb 33793 (length input))
+    by-test (λ t. length (joined (cond t (refusedLine 4) (answered (phraseIn input) (textIn input)))) ≤ outputSize) (ltb 33793 (length input))
     (λ _. refused-fits 4 (omega arith))
     (λ _. answered-fits (phraseIn input) (textIn input))
 
--- what is given back lies within an output of 131,072 bytes
-pub printed-within : {input output : List ℕ} {r : ℕ} {output′ : List ℕ} → Printed input output r output′ → r ≤ 131072
+-- what is given back lies within an output of that size
+pub printed-within : {input output : List ℕ} {r : ℕ} {output′ : List ℕ} → Printed input output r output′ → r ≤ outputSize
 printed-within {input} {output} {r} p =
-    by-test (λ t. r ≡ cond t 0 (length (printed input)) → r ≤ 131072) (ltb (length output) 131072)
+    by-test (λ t. r ≡ cond t 0 (length (printed input)) → r ≤ outputSize) (ltb (length output) outputSize)
     (λ _ e. omega arith) (λ _ e. omega (arith, printed-fits input)) (p .count)

@@ -8,20 +8,20 @@ use borrow.Author.Tests.{lt-ltb, le-ltb}
 use Rattle.pieces.specs.Pieces.{joined, putAll, Laid}
 use Rattle.pieces.proofs.Laid.{laid-front}
 use Rattle.lines.specs.Lines.{refusedLine}
-use Rattle.finder_output.specs.Printed.{phraseIn, textIn, answered, printed, Printed}
+use Rattle.finder_output.specs.Printed.{phraseIn, textIn, answered, printed, outputSize, Printed}
 use Rattle.finder_output.proofs.Split.{Split}
 use Rattle.finder_output.proofs.Fits.{printed-fits}
 
 module _ {input output : List ℕ} where
   -- an output that is too short
-  pub promise-none : length output < 131072 → Printed input output 0 output
-  promise-none h = let on = lt-ltb (length output) 131072 h in record { count = rw on; left = rw on }
+  pub promise-none : length output < outputSize → Printed input output 0 output
+  promise-none h = let on = lt-ltb (length output) outputSize h in record { count = rw on; left = rw on }
 
-  module _ {r : ℕ} {output′ : List ℕ} (enough : 131072 ≤ length output) where
+  module _ {r : ℕ} {output′ : List ℕ} (enough : outputSize ≤ length output) where
     -- the pieces of all that is printed were laid out
     promise-laid : (pieces : List (List ℕ)) → printed input ≡ joined pieces → Laid output′ r (putAll output 0 pieces) → Printed input output r output′
     promise-laid pieces is l =
-        let off = le-ltb (length output) 131072 enough in
+        let off = le-ltb (length output) outputSize enough in
         let whole = laid-front pieces output (omega (arith, ap length is, printed-fits input)) l in
         record { count = rw (off, is) (whole .0); left = rw (off, is) (whole .1) }
 

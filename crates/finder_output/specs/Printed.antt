@@ -57,8 +57,12 @@ answered P T = let number : ℕ = refusal (length P) (length T) 0 0 in cond (eqb
 unfoldable pub printed : List ℕ → List ℕ
 printed input = joined (cond (ltb 33793 (length input)) (refusedLine 4) (answered (phraseIn input) (textIn input)))
 
--- what is given back, and the lent output afterwards: the number of bytes printed, and these bytes at the output's front with the rest kept. An output below 131,072 bytes is left
--- as it was, and 0 given back; 131,072 bytes are enough for every input (`printed-fits` of proofs/Fits.antt)
+-- the size of the output that is asked for: enough for every input (`printed-fits` of proofs/Fits.antt), and for ten lines
+abbrev pub outputSize : ℕ
+outputSize = 262144
+
+-- what is given back, and the lent output afterwards: the number of bytes printed, and these bytes at the output's front with the rest kept. A shorter output is left as it was, and 0
+-- given back
 pub record Printed (input output : List ℕ) (r : ℕ) (output′ : List ℕ) : Type 0 where
-  pub count : r ≡ cond (ltb (length output) 131072) 0 (length (printed input))
-  pub left : output′ ≡ cond (ltb (length output) 131072) output (printed input ++ drop (length (printed input)) output)
+  pub count : r ≡ cond (ltb (length output) outputSize) 0 (length (printed input))
+  pub left : output′ ≡ cond (ltb (length output) outputSize) output (printed input ++ drop (length (printed input)) output)

@@ -57,11 +57,11 @@ fn put_answer(phrase: &[u8], text: &[u8], output: &mut [u8]) -> usize
     put_engine(4, b"fjs", phrase, text, output, at)
 }
 
-// Puts what the finder prints for an input at the output's front: how many bytes these are. An output below 131,072 bytes stays as it is, and 0 is given back.
+// Puts what the finder prints for an input at the output's front: how many bytes these are. An output below 262,144 bytes stays as it is, and 0 is given back.
 pub fn print_answer(input: &[u8], output: &mut [u8]) -> usize
     ensures { λ r. ⌜ Printed (now (input .entry)) (now (output .entry)) r (now (output .exit)) ⌝ }
 {
-    if output.len() < 131072 {
+    if output.len() < 262144 {
         return 0;
     }
     if 33793 < input.len() {

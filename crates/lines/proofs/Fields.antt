@@ -6,7 +6,7 @@ use mathlib.Core.List.{List, [], _∷_, _++_, map}
 use lib.ListN.{length, getD, take, length-take}
 use lib.Seq.{take-all}
 use Rattle.matching.specs.Received.{received}
-use Rattle.matching.proofs.Received.{received-front}
+use Rattle.matching.proofs.Received.{received-first}
 use Rattle.lines.specs.Lines.{field, fields}
 
 -- the fields of one number more, and of all
@@ -29,4 +29,4 @@ fields-min (suc count) (x ∷ list) = let e : min (suc count) (suc (length list)
 -- of a list that received values, as many as there are values: the fields of those that it had places for
 pub fields-received : (list values : List ℕ) → fields (length values) (received list values) ≡ fields (length values) (take (length list) values)
 unfolding fields
-fields-received list values = ap (map field) (received-front list values ∙ sym (take-all (length values) (take (length list) values) (omega (arith, length-take (length list) values))))
+fields-received list values = ap (map field) (received-first list values ∙ sym (take-all (length values) (take (length list) values) (omega (arith, length-take (length list) values))))

@@ -41,7 +41,7 @@ module _ {ℓ} {A : Type ℓ} where
   received-enough (y ∷ list) (x ∷ values) (suc k) h = received-cons y x list (take k values) ∙ ap (λ (l : List A). x ∷ l) (received-enough list values k (omega arith)) ∙ sym (received-cons y x list values)
 
   -- the list's front, as long as the values, holds those that it received
-  pub received-front : (list values : List A) → take (length values) (received list values) ≡ take (length list) values
-  received-front [] values = ap (take (length values)) (received-full values) ∙ take-nil (length values)
-  received-front (y ∷ list) [] = refl
-  received-front (y ∷ list) (x ∷ values) = ap (take (suc (length values))) (received-cons y x list values) ∙ ap (λ (l : List A). x ∷ l) (received-front list values)
+  pub received-first : (list values : List A) → take (length values) (received list values) ≡ take (length list) values
+  received-first [] values = ap (take (length values)) (received-full values) ∙ take-nil (length values)
+  received-first (y ∷ list) [] = refl
+  received-first (y ∷ list) (x ∷ values) = ap (take (suc (length values))) (received-cons y x list values) ∙ ap (λ (l : List A). x ∷ l) (received-first list values)
