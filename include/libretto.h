@@ -74,7 +74,8 @@ typedef struct {
     uint32_t refusal, total, comparisons;
 } libretto_finding;
 
-/* Finds every place of the phrase in the text, overlapping ones included, counted from 0.
+/* Finds every place of the phrase in the text, overlapping ones included, counted from 0. Letters are compared as they stand: a capital letter and
+ * its small one differ. To find whatever the case, fold phrase and text first (libretto_fold_text), as the resolver does.
  *
  * Afterwards the list holds the first places, rising, up to its length, and its entries past those keep their values; the total is full also where
  * the list is shorter, and a short list is no refusal. The scratch's front holds the method's tables, and its entries past them keep their values.
@@ -86,10 +87,44 @@ libretto_finding libretto_find(uint32_t method, const uint8_t *phrase, size_t ph
 /* What a letter of ISO 8859-1 folds to: 32 is added to 0x41-0x5A and to 0xC0-0xDE except 0xD7, and every other byte stays. */
 uint8_t libretto_fold(uint8_t letter);
 
+/* Folds the letters of a text into the target's front, as many as it has room for, and gives their number, the smaller of the two lengths. The
+ * target's bytes past them keep their values. The target must not overlap the text. */
+size_t libretto_fold_text(const uint8_t *text, size_t text_len, uint8_t *target, size_t target_len);
+
 /* A cue book is 0 to 999 cues and nothing after. A cue is three fields: the phrase (tag 1, 1 to 1,024 bytes), the ordinal (tag 2, 2 bytes, high byte
  * first, 1 to 65,535) and the title (tag 3, 0 to 200 bytes). A field is the tag in one byte, the length in two, high byte first, and the body; so a
  * cue has 11 bytes besides phrase and title. For each field these are tested in turn: three header bytes present (7), the tag (8), the length (9),
  * the body present (7), the ordinal not 0 (9). */
+
+/* The fields of a cue, by their tags. */
+enum libretto_due {
+    LIBRETTO_DUE_PHRASE = 1,
+    LIBRETTO_DUE_ORDINAL = 2,
+    LIBRETTO_DUE_TITLE = 3
+};
+
+/* A field read: a refusal or 0, where its body starts and how long it is, and the place after it. A refused field gives 0 for these three. */
+typedef struct {
+    uint32_t refusal;
+    size_t start, len, end;
+} libretto_field;
+
+/* Reads the field that is due at a place of the book, a byte's index from 0. It is refused with 7, 8 or 9 in the order above. A place past the
+ * book's end, however large, meets 7. A due that is no field's tag meets 7 where three header bytes are not present, and 8 otherwise, since no byte
+ * is its tag. Nothing is written. */
+libretto_field libretto_read_field(const uint8_t *book, size_t book_len, size_t place, uint32_t due);
+
+/* A cue read: a refusal or 0, the ordinal, where phrase and title start in the book and how long they are, and the place after the cue. A refused
+ * cue gives 0 for these six. */
+typedef struct {
+    uint32_t refusal, ordinal;
+    size_t phrase_start, phrase_len, title_start, title_len, end;
+} libretto_cue;
+
+/* Reads the cue at a place of the book, a byte's index from 0: its three fields, and the first refusal among them, 7, 8 or 9. A place at or past the
+ * book's end meets 7. To read all cues, start at 0 and go on at the end of each cue up to the book's length; that a book has at most 999 of them is
+ * tested where a whole book is read. Nothing is written. */
+libretto_cue libretto_read_cue(const uint8_t *book, size_t book_len, size_t place);
 
 /* What a call on a cue book gives back: a refusal or 0, and a number that each function names. */
 typedef struct {

@@ -1,15 +1,45 @@
 // The room of the C interface: each function is exported under the name that include/libretto.h gives it, and carries the exact contract of what it wraps.
-// It leans on `find`, `fold`, `cue_book`, `cue_writer` and `resolver`. `rt staticlib libretto` makes the archive that C and Rust link.
+// An enum does not pass to C: the definitions of specs/Plain.antt say which numbers pass in its place.
+// It leans on `find`, `fold`, `cue_fields`, `cue_book`, `cue_writer` and `resolver`. `rt staticlib libretto` makes the archive that C and Rust link.
 use cue_book::Answer;
+use cue_book::CueAnswer;
 use cue_book::Part;
+use cue_fields::Due;
+use cue_fields::FieldAnswer;
 use matching::Finding;
 ghost use mathlib.Core.Path.{_≡_};
+ghost use mathlib.Core.List.{map};
+ghost use Prim.Native.Nat.{min};
+ghost use lib.ListN.{length};
+ghost use Rattle.matching.specs.Received.{received};
 ghost use Rattle.find.specs.Find.{Answered};
 ghost use Rattle.fold.specs.Fold.{folded};
 ghost use Rattle.cue_book.specs.Format.{cueWith};
-ghost use Rattle.cue_book.specs.Places.{bookAnswer, TitlePlaced};
+ghost use Rattle.cue_book.specs.Places.{cueAt, bookAnswer, TitlePlaced};
 ghost use Rattle.cue_writer.specs.Writing.{Written};
 ghost use Rattle.resolver.specs.Resolver.{Resolved};
+ghost use Rattle.libretto.specs.Plain.{fieldDue, fieldPassed, cuePassed};
+
+// A field read, as it passes to C: the refusal, or 0 with its body's start and length and the place after it. A refused one is 0 in all else.
+#[repr(C)]
+pub struct PlainField {
+    pub refusal: u32,
+    pub start: usize,
+    pub len: usize,
+    pub end: usize,
+}
+
+// A cue read, as it passes to C: the refusal, or 0 with its ordinal, its phrase and its title as parts of the book, and the place after it. A refused one is 0 in all else.
+#[repr(C)]
+pub struct PlainCue {
+    pub refusal: u32,
+    pub ordinal: u32,
+    pub phrase_start: usize,
+    pub phrase_len: usize,
+    pub title_start: usize,
+    pub title_len: usize,
+    pub end: usize,
+}
 
 // A find by a method number. Slices pass as pointer and length, the finding as a struct of three 32-bit numbers.
 #[no_mangle]
@@ -31,6 +61,99 @@ pub extern "C" fn libretto_fold(letter: u8) -> u8
     ensures { λ r. ⌜ r ≡ folded letter ⌝ }
 {
     fold::letter(letter)
+}
+
+// The letters of a text, folded into a lent target: as many as it has room for, and their number.
+#[no_mangle]
+pub extern "C" fn libretto_fold_text(text: &[u8], target: &mut [u8]) -> usize
+    ensures { λ _. ⌜ now (target .exit) ≡ received (now (target .entry)) (map folded (now (text .entry))) ⌝ }
+    ensures counted { λ r. ⌜ r ≡ min (length (now (text .entry))) (length (now (target .entry))) ⌝ }
+{
+    fold::letters(text, target);
+    let letters = text.len();
+    let room = target.len();
+    if room < letters {
+        return room;
+    }
+    letters
+}
+
+// The field that a number names by its tag, read at a place of a book. No byte is the tag of another number.
+fn read_due(book: &[u8], place: usize, due: u32) -> FieldAnswer
+    ensures { λ r. ⌜ r ≡ fieldDue (now (book .entry)) place due ⌝ }
+{
+    if due == 1 {
+        return cue_fields::read_field(book, place, Due::Phrase);
+    }
+    if due == 2 {
+        return cue_fields::read_field(book, place, Due::Ordinal);
+    }
+    if due == 3 {
+        return cue_fields::read_field(book, place, Due::Title);
+    }
+    if book.len() < place {
+        return FieldAnswer::Refused(7);
+    }
+    if book.len() - place < 3 {
+        return FieldAnswer::Refused(7);
+    }
+    FieldAnswer::Refused(8)
+}
+
+// A field read at a place of a book.
+#[no_mangle]
+pub extern "C" fn libretto_read_field(book: &[u8], place: usize, due: u32) -> PlainField
+    ensures { λ r. ⌜ r ≡ fieldPassed (fieldDue (now (book .entry)) place due) ⌝ }
+{
+    let answer = read_due(book, place, due);
+    match answer {
+        FieldAnswer::Body { start, end } => PlainField {
+            refusal: 0,
+            start,
+            len: end - start,
+            end,
+        },
+        FieldAnswer::Refused(refusal) => PlainField {
+            refusal,
+            start: 0,
+            len: 0,
+            end: 0,
+        },
+    }
+}
+
+// A cue read at a place of a book.
+#[no_mangle]
+pub extern "C" fn libretto_read_cue(book: &[u8], place: usize) -> PlainCue
+    ensures { λ r. ⌜ r ≡ cuePassed (cueAt (now (book .entry)) place) ⌝ }
+{
+    let answer = cue_book::read_cue(book, place);
+    match answer {
+        CueAnswer::Cue {
+            phrase,
+            phrase_end,
+            ordinal,
+            title,
+            end,
+        } => PlainCue {
+            refusal: 0,
+            ordinal,
+            phrase_start: phrase,
+            phrase_len: phrase_end - phrase,
+            title_start: title,
+            title_len: end - title,
+            end,
+        },
+        CueAnswer::Refused(number) => PlainCue {
+            refusal: number,
+            ordinal: 0,
+            phrase_start: 0,
+            phrase_len: 0,
+            title_start: 0,
+            title_len: 0,
+            end: 0,
+        },
+    }
 }
 
 // A book read: 0 and its number of cues, or the refusal and the cue's index. An answer passes as a struct of two 32-bit numbers.

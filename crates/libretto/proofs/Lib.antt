@@ -1,0 +1,2 @@
+-- The laws of what passes to C.
+pub mod Plain

@@ -1,0 +1,2 @@
+-- What passes to C where an answer is an enum.
+pub mod Plain
