@@ -1,6 +1,6 @@
 //! The C interface of the library, and the only unsafe code of this crate: one declaration and one call for each function.
 
-use crate::{RawAnswer, RawFinding, RawPart, ResolverMemory};
+use crate::{RawAnswer, RawCue, RawField, RawFinding, RawPart, ResolverMemory};
 
 extern "C" {
     fn libretto_find(
@@ -16,6 +16,12 @@ extern "C" {
     ) -> RawFinding;
 
     fn libretto_fold(letter: u8) -> u8;
+
+    fn libretto_fold_text(text: *const u8, text_len: usize, target: *mut u8, target_len: usize) -> usize;
+
+    fn libretto_read_field(book: *const u8, book_len: usize, place: usize, due: u32) -> RawField;
+
+    fn libretto_read_cue(book: *const u8, book_len: usize, place: usize) -> RawCue;
 
     fn libretto_read_book(book: *const u8, book_len: usize) -> RawAnswer;
 
@@ -72,6 +78,28 @@ pub(crate) fn find(method: u32, phrase: &[u8], text: &[u8], scratch: &mut [u16],
 pub(crate) fn fold(letter: u8) -> u8 {
     // SAFETY: the function takes and gives a number, and accepts every one.
     unsafe { libretto_fold(letter) }
+}
+
+/// Calls `libretto_fold_text` on slices.
+pub(crate) fn fold_text(text: &[u8], target: &mut [u8]) -> usize {
+    // SAFETY: each pointer comes from a slice and stands beside that slice's own length, so it is not null (also where the slice is empty) and valid
+    // for as many bytes: for reading with the text, for reading and writing with the target. The exclusive borrow keeps the target apart from the
+    // text, and both borrows outlive the call, which keeps no pointer. The library accepts any lengths. `usize` is `size_t`.
+    unsafe { libretto_fold_text(text.as_ptr(), text.len(), target.as_mut_ptr(), target.len()) }
+}
+
+/// Calls `libretto_read_field` on a slice.
+pub(crate) fn read_field(book: &[u8], place: usize, due: u32) -> RawField {
+    // SAFETY: as for `read_book`; the library accepts any place and any number as well. `RawField` has the layout of the C structure (`repr(C)`, a
+    // `u32` and three `usize`, which is `size_t`).
+    unsafe { libretto_read_field(book.as_ptr(), book.len(), place, due) }
+}
+
+/// Calls `libretto_read_cue` on a slice.
+pub(crate) fn read_cue(book: &[u8], place: usize) -> RawCue {
+    // SAFETY: as for `read_book`; the library accepts any place as well. `RawCue` has the layout of the C structure (`repr(C)`, two `u32` and five
+    // `usize`, which is `size_t`).
+    unsafe { libretto_read_cue(book.as_ptr(), book.len(), place) }
 }
 
 /// Calls `libretto_read_book` on a slice.

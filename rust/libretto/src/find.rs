@@ -91,7 +91,8 @@ pub struct RawFinding {
     pub comparisons: u32,
 }
 
-/// Finds every place of the phrase in the text, overlapping ones included, counted from 0.
+/// Finds every place of the phrase in the text, overlapping ones included, counted from 0. Letters are compared as they stand: a capital letter and
+/// its small one differ. To find whatever the case, fold phrase and text first ([`fold_text`](crate::fold_text)), as the resolver does.
 ///
 /// Afterwards the list holds the first places, rising, up to its length; its entries past those keep their values. A short list is no refusal. The
 /// scratch's front holds the method's tables ([`Method::scratch_entries`] of them); its entries past them keep their values. A refused call leaves
@@ -112,7 +113,7 @@ pub fn find_raw(method: u32, phrase: &[u8], text: &[u8], scratch: &mut [u16], li
     ffi::find(method, phrase, text, scratch, list)
 }
 
-/// All places of the phrase in the text, rising, counted from 0. The memory that the engine needs is allocated here.
+/// All places of the phrase in the text, rising, counted from 0, by [`find`]. The memory that the engine needs is allocated here.
 ///
 /// ```
 /// use libretto::{find_all, Method};

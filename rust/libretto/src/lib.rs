@@ -1,11 +1,12 @@
 //! Exact matching over bytes by six engines, cue books, and the places of their cues: a safe Rust interface to the library `libretto`.
 //!
 //! All engines give the same list of places; each gives the count of its own letter comparisons. The library allocates nothing: the caller lends a
-//! scratch of 16-bit numbers for the tables and a list of 32-bit numbers for the places. [`find_all`] lends both itself.
+//! scratch of 16-bit numbers for the tables and a list of 32-bit numbers for the places. [`find_all`] lends both itself. The engines compare letters
+//! as they stand; the resolver alone folds them, and [`fold_text`] folds for whoever wants to find in the same way.
 //!
-//! A cue book is 0 to 999 cues, each with a phrase, an ordinal and a title: [`write_cue`] writes one, [`read_book`] tests a whole book, and [`title`]
-//! shows a title where it stands. [`resolve`] finds the place, line and column of each cue in a text, in lent memory too; [`resolve_all`] lends it
-//! itself.
+//! A cue book is 0 to 999 cues, each with a phrase, an ordinal and a title: [`write_cue`] writes one, [`read_cue`] reads one, [`read_book`] tests a
+//! whole book, and [`title`] shows a title where it stands. [`resolve`] finds the place, line and column of each cue in a text, in lent memory too;
+//! [`resolve_all`] lends it itself.
 //!
 //! ```
 //! use libretto::{find, find_all, Finding, Method, Refusal};
@@ -35,8 +36,8 @@ mod find;
 mod refusal;
 mod resolver;
 
-pub use cue_book::{read_book, read_book_raw, title, title_raw, write_cue, write_cue_raw};
-pub use cue_book::{BookError, RawAnswer, RawPart, CUES_MAX, CUE_MAX, ORDINAL_MAX, TITLE_MAX};
+pub use cue_book::{read_book, read_book_raw, read_cue, read_cue_raw, read_field, read_field_raw, title, title_raw, write_cue, write_cue_raw};
+pub use cue_book::{BookError, Cue, Due, Field, RawAnswer, RawCue, RawField, RawPart, CUES_MAX, CUE_MAX, ORDINAL_MAX, TITLE_MAX};
 pub use find::{find, find_all, find_raw, Finding, Method, RawFinding};
 pub use refusal::Refusal;
 pub use resolver::{resolve, resolve_all, resolve_raw};
@@ -56,4 +57,20 @@ pub const TEXT_MAX: usize = 32_768;
 /// ```
 pub fn fold(letter: u8) -> u8 {
     ffi::fold(letter)
+}
+
+/// Folds the letters of a text into the target's front, as many as it has room for, and gives their number, the smaller of the two lengths. The
+/// target's bytes past them keep their values.
+///
+/// ```
+/// use libretto::fold_text;
+///
+/// let mut target = *b"......";
+/// assert_eq!(fold_text(b"L\xc0 La", &mut target), 5);
+/// assert_eq!(&target, b"l\xe0 la.");
+/// assert_eq!(fold_text(b"TRALALA", &mut target[..3]), 3);
+/// assert_eq!(&target, b"trala.");
+/// ```
+pub fn fold_text(text: &[u8], target: &mut [u8]) -> usize {
+    ffi::fold_text(text, target)
 }
