@@ -10,10 +10,10 @@ pub enum Field {
     Title,
 }
 
-/// A cue of a book. The title is told by the part of the book where it stands.
+/// A cue of a book. Phrase and title are told by the parts of the book where they stand.
 #[derive(Clone, Debug, PartialEq, Eq)]
 pub struct Cue {
-    pub phrase: Vec<u8>,
+    pub phrase: Range<usize>,
     pub ordinal: u32,
     pub title: Range<usize>,
 }
@@ -46,14 +46,25 @@ pub fn read_field(book: &[u8], place: usize, due: Field) -> Result<(Range<usize>
     Ok((start..after, after))
 }
 
+/// [`read_field`] with the due field told by its tag. No byte is the tag of another number: three header bytes present (7), tag (8).
+pub fn read_due(book: &[u8], place: usize, due: u32) -> Result<(Range<usize>, usize), u32> {
+    match due {
+        0x01 => read_field(book, place, Field::Phrase),
+        0x02 => read_field(book, place, Field::Ordinal),
+        0x03 => read_field(book, place, Field::Title),
+        _ if place > book.len() || book.len() - place < 3 => Err(7),
+        _ => Err(8),
+    }
+}
+
 /// The cue that starts at this place with the place after it, or the number of the refusal that one of its fields meets.
-fn read_cue(book: &[u8], place: usize) -> Result<(Cue, usize), u32> {
+pub fn read_cue(book: &[u8], place: usize) -> Result<(Cue, usize), u32> {
     let (phrase, place) = read_field(book, place, Field::Phrase)?;
     let (ordinal, place) = read_field(book, place, Field::Ordinal)?;
     let (title, place) = read_field(book, place, Field::Title)?;
     // The ordinal's high byte comes first.
     let ordinal = 256 * book[ordinal.start] as u32 + book[ordinal.start + 1] as u32;
-    Ok((Cue { phrase: book[phrase].to_vec(), ordinal, title }, place))
+    Ok((Cue { phrase, ordinal, title }, place))
 }
 
 /// All cues of a book, or the refusal's number with the cue's index from 0.

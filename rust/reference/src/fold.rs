@@ -8,3 +8,13 @@ pub fn fold(letter: u8) -> u8 {
         _ => letter,
     }
 }
+
+/// Folds the letters of a text into the target, as many as it has room for; gives how many were written.
+pub fn fold_text(text: &[u8], target: &mut [u8]) -> usize {
+    let mut written = 0;
+    while written < text.len() && written < target.len() {
+        target[written] = fold(text[written]);
+        written += 1;
+    }
+    written
+}

@@ -2,8 +2,9 @@
 //! that it is compared with.
 //!
 //! [`find`] is the find call; [`finder_output`] is what the finder program prints. Each engine has a file of its own, with its table's rule and its
-//! steps. Tables are made by brute force from their rules. [`read_book`], [`title`] and [`write_cue`] are the calls of the cue book; [`cues`] and
-//! [`read_field`] are what they are made of. [`resolve`] is the resolver, which searches by brute force and shares nothing with the engines.
+//! steps. Tables are made by brute force from their rules. [`read_book`], [`title`] and [`write_cue`]
+//! are the calls of the cue book; [`cues`], [`read_cue`] and [`read_field`] are what they are made of. [`resolve`] is the resolver, which searches by
+//! brute force and shares nothing with the engines.
 
 #![forbid(unsafe_code)]
 
@@ -22,10 +23,10 @@ mod sunday;
 #[cfg(test)]
 mod worked_examples;
 
-pub use cue_book::{cues, read_book, read_field, title, write_cue, Cue, Field};
+pub use cue_book::{cues, read_book, read_cue, read_due, read_field, title, write_cue, Cue, Field};
 pub use find::find;
 pub use finder::finder_output;
-pub use fold::fold;
+pub use fold::{fold, fold_text};
 pub use resolver::resolve;
 
 /// What an engine gives: the places, rising, counted from 0, and the number of looks at a pair P[j], T[i].

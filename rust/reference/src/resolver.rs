@@ -30,7 +30,7 @@ pub fn resolve(book: &[u8], text: &[u8], copy: &mut [u8], phrase: &mut [u8], scr
 
     for (index, cue) in cues.iter().enumerate() {
         // The entries of earlier cues stay written; those of this cue and the later ones keep their values.
-        let Some(place) = occurrence(&fold_all(&cue.phrase), &folded, cue.ordinal) else {
+        let Some(place) = occurrence(&fold_all(&book[cue.phrase.clone()]), &folded, cue.ordinal) else {
             return (12, index as u32);
         };
         let numbers = [place, line(text, place), column(text, place)];

@@ -1,9 +1,8 @@
 //! The worked examples of document 01, "The finder program" and "Refrains to try", and the tests that books, cues and lent
 //! memory meet.
 
-use crate::{
-    cues, double_window, find, finder_output, fjs, fold, horspool, kmp, read_book, read_field, resolve, sunday, title, write_cue, Cue, Field,
-};
+use crate::{cues, read_book, read_cue, read_due, read_field, title, write_cue, Cue, Field};
+use crate::{double_window, find, finder_output, fjs, fold, fold_text, horspool, kmp, resolve, sunday};
 
 /// Total, comparisons and places by a method, with memory enough.
 fn found(method: u32, phrase: &[u8], text: &[u8]) -> (u32, u32, Vec<u32>) {
@@ -98,7 +97,8 @@ const BOOK: &[u8] = b"\x01\x00\x02la\x02\x00\x02\x00\x02\x03\x00\x02No";
 #[test]
 fn starred_book() {
     assert_eq!(BOOK, [0x01, 0x00, 0x02, 0x6c, 0x61, 0x02, 0x00, 0x02, 0x00, 0x02, 0x03, 0x00, 0x02, 0x4e, 0x6f]);
-    assert_eq!(cues(BOOK), Ok(vec![Cue { phrase: b"la".to_vec(), ordinal: 2, title: 13..15 }]));
+    assert_eq!(cues(BOOK), Ok(vec![Cue { phrase: 3..5, ordinal: 2, title: 13..15 }]));
+    assert_eq!(read_cue(BOOK, 0), Ok((Cue { phrase: 3..5, ordinal: 2, title: 13..15 }, 15)));
     assert_eq!(read_book(BOOK), (0, 1));
     assert_eq!(title(BOOK, 0), (13, 2));
     assert_eq!(title(BOOK, 1), (0, 0));
@@ -110,6 +110,11 @@ fn starred_book() {
 #[test]
 fn starred_folds() {
     assert_eq!([0xc9, 0xd7, 0xdf, 0xff].map(fold), [0xe9, 0xd7, 0xdf, 0xff]);
+    let mut target = *b"xyz";
+    assert_eq!(fold_text(b"LA", &mut target), 2);
+    assert_eq!(&target, b"laz");
+    assert_eq!(fold_text(b"ABCD", &mut target), 3);
+    assert_eq!(&target, b"abc");
 }
 
 /// The tests of a field in their order, each met by a field that would also meet the later ones.
@@ -128,6 +133,8 @@ fn fields() {
     assert_eq!(met(&[0x02, 0x00, 0x02, 0x00], Field::Ordinal), Some(7));
     assert_eq!(met(&[0x02, 0x00, 0x02, 0x00, 0x00], Field::Ordinal), Some(9));
     assert_eq!(met(&[0x02, 0x00, 0x02, 0x01, 0x00], Field::Ordinal), None);
+    assert_eq!(read_due(BOOK, 10, 3), read_field(BOOK, 10, Field::Title));
+    assert_eq!((read_due(BOOK, 12, 4), read_due(BOOK, 13, 4), read_due(BOOK, usize::MAX, 0)), (Err(8), Err(7), Err(7)));
 }
 
 #[test]
@@ -155,7 +162,7 @@ fn cues_to_be_written() {
     assert_eq!(write_cue(&mut buffer[..1234], &letters[..1024], 65_535, &letters[..200]), (13, 0));
     assert_eq!(buffer, [7; 1235]);
     assert_eq!(write_cue(&mut buffer, &letters[..1024], 65_535, &letters[..200]), (0, 1235));
-    assert_eq!(cues(&buffer), Ok(vec![Cue { phrase: letters[..1024].to_vec(), ordinal: 65_535, title: 1035..1235 }]));
+    assert_eq!(cues(&buffer), Ok(vec![Cue { phrase: 3..1027, ordinal: 65_535, title: 1035..1235 }]));
 }
 
 /// What the resolver gives, with the entries, in memory that is just long enough and holds 7 throughout before.

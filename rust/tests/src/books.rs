@@ -48,6 +48,29 @@ impl Cue {
     }
 }
 
+/// Books that differ in what a damage of one byte does: short ones, one with bodies that read as fields, one whose lengths and ordinals need their
+/// high bytes, and the longest cue.
+pub fn samples() -> [Vec<Cue>; 5] {
+    [
+        vec![Cue::new(b"la", 2, b"No")],
+        vec![Cue::new(b"a", 1, b""), Cue::new(b"\xc9t\xe9", 65_535, b"x"), Cue::new(b"\n", 256, b"end")],
+        vec![Cue::new(b"\x02\x00\x02\x00\x01\x03\x00\x00", 0x0203, MORE), Cue::new(MORE, 0x0102, b"\x03\x00\x00")],
+        vec![Cue::new(&[7; 258], 0x0100, &[3; 199]), Cue::new(b"b", 1, b"")],
+        vec![Cue::new(&[1; PHRASE], 65_535, &[2; TITLE])],
+    ]
+}
+
+/// Runs a test on each way to change one byte of a book, and leaves the book as it was.
+pub fn each_damage(book: &mut [u8], mut test: impl FnMut(&[u8])) {
+    for place in 0..book.len() {
+        for _ in 1..=255 {
+            book[place] = book[place].wrapping_add(1);
+            test(book);
+        }
+        book[place] = book[place].wrapping_add(1);
+    }
+}
+
 /// A field with any tag, any length in its header, and any body.
 pub fn field(tag: u8, length: usize, body: &[u8]) -> Vec<u8> {
     let length = u16::try_from(length).expect("a header holds two bytes of length");

@@ -2,7 +2,51 @@
 
 use crate::lent::{dirt, Lent, Shown};
 use crate::Faults;
-use libretto::{read_book_raw, title_raw, write_cue_raw, RawAnswer};
+use libretto::{read_book_raw, read_cue_raw, read_field_raw, title_raw, write_cue_raw, RawAnswer, RawCue, RawField};
+use std::fmt::Debug;
+
+/// Calls the library on a book that is shown with what stands behind it, and compares what it gives with what the reference gives. Any difference ends
+/// the test with the whole case.
+fn compare_reading<T: Copy + PartialEq + Debug>(book: &[u8], behind: &[u8], case: &str, library: impl FnOnce(&[u8]) -> T, reference: T) -> T {
+    let mut shown = Shown::default();
+    shown.show(book, behind);
+    let library = library(shown.bytes());
+    let mut faults = Faults::default();
+    faults.when(library != reference, "library and reference differ");
+    faults.when(!shown.intact(book, behind), "the book was written");
+    faults.judge(|| {
+        let [book_bytes, behind_bytes] = [book, behind].map(|bytes| bytes.escape_ascii().to_string());
+        format!("{case}\nbook of {} bytes: \"{book_bytes}\"\nbehind it: \"{behind_bytes}\"\nlibrary {library:?}\nreference {reference:?}", book.len())
+    });
+    library
+}
+
+/// Reads the field that is due at a place, told by a number, by the library and by the reference, and compares all that they give. Any difference ends
+/// the test with the whole case.
+pub fn compare_field(book: &[u8], behind: &[u8], place: usize, due: u32) -> RawField {
+    let reference = match reference::read_due(book, place, due) {
+        Ok((body, end)) => RawField { refusal: 0, start: body.start, len: body.len(), end },
+        Err(refusal) => RawField { refusal, start: 0, len: 0, end: 0 },
+    };
+    compare_reading(book, behind, &format!("place {place}, due {due}"), |book| read_field_raw(book, place, due), reference)
+}
+
+/// Reads the cue at a place by the library and by the reference, and compares all that they give. Any difference ends the test with the whole case.
+pub fn compare_cue(book: &[u8], behind: &[u8], place: usize) -> RawCue {
+    let reference = match reference::read_cue(book, place) {
+        Ok((reference::Cue { phrase, ordinal, title }, end)) => RawCue {
+            refusal: 0,
+            ordinal,
+            phrase_start: phrase.start,
+            phrase_len: phrase.len(),
+            title_start: title.start,
+            title_len: title.len(),
+            end,
+        },
+        Err(refusal) => RawCue { refusal, ordinal: 0, phrase_start: 0, phrase_len: 0, title_start: 0, title_len: 0, end: 0 },
+    };
+    compare_reading(book, behind, &format!("place {place}"), |book| read_cue_raw(book, place), reference)
+}
 
 /// Reads the book by the library and by the reference, and compares the answers and the titles of all its cues, of the cues next to them and of cues
 /// far off. What stands behind the book in memory would be read as more of it. Any difference ends the test with the whole case.

@@ -8,14 +8,16 @@ use std::sync::atomic::{AtomicU64, Ordering};
 pub mod books;
 mod cue_book;
 mod find;
+mod fold;
 mod lent;
 pub mod programs;
 mod resolver;
 pub mod verses;
 pub mod words;
 
-pub use cue_book::{compare_book, compare_write};
+pub use cue_book::{compare_book, compare_cue, compare_field, compare_write};
 pub use find::{compare, needed};
+pub use fold::compare_fold;
 pub use resolver::{compare_resolve, Lengths};
 pub use words::Random;
 

@@ -2,20 +2,8 @@
 //! every compared book.
 
 use libretto::{read_book, title, RawAnswer};
-use libretto_tests::books::{book, change, field, Cue, CUES, MORE, PHRASE, TITLE};
+use libretto_tests::books::{book, change, each_damage, field, samples, Cue, CUES, MORE};
 use libretto_tests::{compare_book, report, Random};
-
-/// Books that differ in what a damage of one byte does: short ones, one with bodies that read as fields, one whose lengths and ordinals need their
-/// high bytes, and the longest cue.
-fn books() -> [Vec<Cue>; 5] {
-    [
-        vec![Cue::new(b"la", 2, b"No")],
-        vec![Cue::new(b"a", 1, b""), Cue::new(b"\xc9t\xe9", 65_535, b"x"), Cue::new(b"\n", 256, b"end")],
-        vec![Cue::new(b"\x02\x00\x02\x00\x01\x03\x00\x00", 0x0203, MORE), Cue::new(MORE, 0x0102, b"\x03\x00\x00")],
-        vec![Cue::new(&[7; 258], 0x0100, &[3; 199]), Cue::new(b"b", 1, b"")],
-        vec![Cue::new(&[1; PHRASE], 65_535, &[2; TITLE])],
-    ]
-}
 
 fn numbers(raw: RawAnswer) -> (u32, u32) {
     (raw.refusal, raw.number)
@@ -24,16 +12,8 @@ fn numbers(raw: RawAnswer) -> (u32, u32) {
 #[test]
 fn every_damage_of_one_byte() {
     let mut met = [0; 14];
-    for cues in books() {
-        let mut damaged = book(&cues);
-        for place in 0..damaged.len() {
-            for _ in 1..=255 {
-                damaged[place] = damaged[place].wrapping_add(1);
-                met[compare_book(&damaged, MORE).refusal as usize] += 1;
-            }
-            damaged[place] = damaged[place].wrapping_add(1);
-        }
-        assert_eq!(damaged, book(&cues));
+    for cues in samples() {
+        each_damage(&mut book(&cues), |damaged| met[compare_book(damaged, MORE).refusal as usize] += 1);
     }
     assert!([0, 7, 8, 9].iter().all(|&refusal| met[refusal] > 500), "the damages met too little: {met:?}");
     report("every_damage_of_one_byte", 255 * 1800);
@@ -41,7 +21,7 @@ fn every_damage_of_one_byte() {
 
 #[test]
 fn every_end() {
-    for cues in books() {
+    for cues in samples() {
         let whole = book(&cues);
         let ends: Vec<usize> = (0..=cues.len()).map(|count| book(&cues[..count]).len()).collect();
         for length in 0..=whole.len() {
