@@ -22,18 +22,12 @@ enum { REFUSED = 1, FAILED = 2 };
 
 #define PLACES_A_ROW 10
 
-/* What the library does not tell of a cue: where in the book its phrase stands, and its ordinal. */
-struct cue {
-    libretto_part phrase;
-    unsigned ordinal;
-};
-
 static int latin1;
 
 static uint8_t text[TEXT_ROOM], book[BOOK_ROOM];
 static size_t text_len, book_len;
 
-static struct cue cues[LIBRETTO_CUES_MAX];
+static libretto_cue cues[LIBRETTO_CUES_MAX];
 static size_t cues_len;
 
 /* The text folded, and the phrases folded, each where it stands in the book. */
@@ -80,28 +74,21 @@ static void print_letters(FILE *out, const uint8_t *letters, size_t len)
     }
 }
 
-static void print_phrase(FILE *out, const struct cue *cue)
+static void print_phrase(FILE *out, const libretto_cue *cue)
 {
     putc('"', out);
-    print_letters(out, book + cue->phrase.start, cue->phrase.len);
+    print_letters(out, book + cue->phrase_start, cue->phrase_len);
     putc('"', out);
 }
 
-/* Notes the cues of a book that the library has accepted: then every tag, every length and every body is as it should be. */
+/* Notes the cues of a book that the library has accepted as a whole, and folds their phrases. */
 static void note_cues(void)
 {
-    libretto_part body;
-
-    for (size_t place = 0; place < book_len; place = body.start + body.len) {
-        body.start = place + 3;
-        body.len = (size_t)book[place + 1] << 8 | book[place + 2];
-        if (book[place] == 1) {
-            cues[cues_len++].phrase = body;
-            for (size_t i = body.start; i < body.start + body.len; i++)
-                folded_book[i] = libretto_fold(book[i]);
-        } else if (book[place] == 2) {
-            cues[cues_len - 1].ordinal = (unsigned)book[body.start] << 8 | book[body.start + 1];
-        }
+    for (size_t place = 0; place < book_len; place = cues[cues_len++].end) {
+        libretto_cue cue = libretto_read_cue(book, book_len, place);
+        assert(cue.refusal == LIBRETTO_OK);
+        libretto_fold_text(book + cue.phrase_start, cue.phrase_len, folded_book + cue.phrase_start, cue.phrase_len);
+        cues[cues_len] = cue;
     }
 }
 
@@ -112,9 +99,9 @@ static libretto_answer resolve(void)
 }
 
 /* Lists all places of a cue's folded phrase in the folded text, which the resolver has left in its copy; gives their number. */
-static uint32_t list_refrain(const struct cue *cue)
+static uint32_t list_refrain(const libretto_cue *cue)
 {
-    libretto_finding found = libretto_find(LIBRETTO_FJS, folded_book + cue->phrase.start, cue->phrase.len, folded_text, text_len, scratch,
+    libretto_finding found = libretto_find(LIBRETTO_FJS, folded_book + cue->phrase_start, cue->phrase_len, folded_text, text_len, scratch,
                                            LIBRETTO_SCRATCH_RESOLVER, list, LIBRETTO_TEXT_MAX);
 
     /* The resolver has searched for this phrase in this text with this scratch before. */
@@ -150,8 +137,8 @@ static int refuse(const char *text_path, const char *book_path, libretto_answer 
     else
         fprintf(stderr, "%s: cue %u: %s", book_path, (unsigned)answer.number, words(answer.refusal));
     if (answer.refusal == LIBRETTO_NO_OCCURRENCE) {
-        const struct cue *cue = &cues[answer.number];
-        fprintf(stderr, ": ordinal %u of ", cue->ordinal);
+        const libretto_cue *cue = &cues[answer.number];
+        fprintf(stderr, ": ordinal %u of ", (unsigned)cue->ordinal);
         print_phrase(stderr, cue);
         fprintf(stderr, ", total %u", (unsigned)list_refrain(cue));
     }
@@ -164,23 +151,25 @@ static void print_cues(void)
     printf("cue  place   line  column  title\n");
     for (size_t i = 0; i < cues_len; i++) {
         const uint32_t *entry = entries + i * LIBRETTO_CUE_ENTRIES;
-        libretto_part title = libretto_title(book, book_len, (uint32_t)i);
         printf("%3u  %5u  %5u  %6u", (unsigned)i, (unsigned)entry[0], (unsigned)entry[1], (unsigned)entry[2]);
-        if (title.len > 0)
+        if (cues[i].title_len > 0)
             printf("  ");
-        print_letters(stdout, book + title.start, title.len);
+        print_letters(stdout, book + cues[i].title_start, cues[i].title_len);
         printf("\n");
     }
+}
+
+/* Whether two cues have one folded phrase. */
+static int same_phrase(const libretto_cue *one, const libretto_cue *other)
+{
+    return one->phrase_len == other->phrase_len && memcmp(folded_book + one->phrase_start, folded_book + other->phrase_start, one->phrase_len) == 0;
 }
 
 /* Whether no cue before this one has its folded phrase. */
 static int is_first(size_t index)
 {
-    libretto_part phrase = cues[index].phrase;
-
     for (size_t i = 0; i < index; i++) {
-        libretto_part other = cues[i].phrase;
-        if (other.len == phrase.len && memcmp(folded_book + other.start, folded_book + phrase.start, phrase.len) == 0)
+        if (same_phrase(&cues[i], &cues[index]))
             return 0;
     }
     return 1;

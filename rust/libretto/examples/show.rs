@@ -2,7 +2,7 @@
 //!
 //! It is `examples/show.c` over the safe interface and prints the same to the byte; what the show file holds is told there.
 
-use libretto::{find_all, fold, read_book, resolve_all, title, CuePlace, Method, Refusal};
+use libretto::{find_all, fold_text, read_book, read_cue, resolve_all, CuePlace, Method, Refusal};
 use std::env;
 use std::ffi::OsString;
 use std::fmt::Display;
@@ -17,11 +17,10 @@ const FAILED: u8 = 2;
 
 const PLACES_A_ROW: usize = 10;
 
-/// What the library does not tell of a cue: its phrase, here as it stands in the book and folded, and its ordinal.
+/// A cue as it stands in the book, and its phrase folded.
 struct Cue<'a> {
-    phrase: &'a [u8],
+    read: libretto::Cue<'a>,
     folded: Vec<u8>,
-    ordinal: u16,
 }
 
 /// Why there is no show file, or not all of it.
@@ -45,21 +44,19 @@ impl Failure {
 }
 
 fn fold_all(letters: &[u8]) -> Vec<u8> {
-    letters.iter().map(|&letter| fold(letter)).collect()
+    let mut folded = vec![0; letters.len()];
+    fold_text(letters, &mut folded);
+    folded
 }
 
-/// The cues of a book that the library has accepted: then every tag, every length and every body is as it should be.
+/// The cues of a book that the library has accepted as a whole.
 fn cues(book: &[u8]) -> Vec<Cue<'_>> {
-    let mut cues: Vec<Cue> = Vec::new();
-    let mut rest = book;
-    while let [tag, high, low, onward @ ..] = rest {
-        let (body, after) = onward.split_at(usize::from(u16::from_be_bytes([*high, *low])));
-        match (tag, body, cues.last_mut()) {
-            (1, phrase, _) => cues.push(Cue { phrase, folded: fold_all(phrase), ordinal: 0 }),
-            (2, [high, low], Some(cue)) => cue.ordinal = u16::from_be_bytes([*high, *low]),
-            _ => {}
-        }
-        rest = after;
+    let mut cues = Vec::new();
+    let mut place = 0;
+    while place < book.len() {
+        let read = read_cue(book, place).expect("the book was read before");
+        place = read.end;
+        cues.push(Cue { read, folded: fold_all(read.phrase) });
     }
     cues
 }
@@ -85,14 +82,14 @@ fn print_letters(out: &mut impl Write, letters: &[u8], latin1: bool) -> io::Resu
 
 fn print_phrase(out: &mut impl Write, cue: &Cue, latin1: bool) -> io::Result<()> {
     out.write_all(b"\"")?;
-    print_letters(out, cue.phrase, latin1)?;
+    print_letters(out, cue.read.phrase, latin1)?;
     out.write_all(b"\"")
 }
 
-fn print_cues(out: &mut impl Write, book: &[u8], places: &[CuePlace], latin1: bool) -> io::Result<()> {
+fn print_cues(out: &mut impl Write, cues: &[Cue], places: &[CuePlace], latin1: bool) -> io::Result<()> {
     writeln!(out, "cue  place   line  column  title")?;
-    for (index, CuePlace { place, line, column }) in places.iter().enumerate() {
-        let title = title(book, index);
+    for (index, (cue, CuePlace { place, line, column })) in cues.iter().zip(places).enumerate() {
+        let title = cue.read.title;
         write!(out, "{index:3}  {place:5}  {line:5}  {column:6}{}", if title.is_empty() { "" } else { "  " })?;
         print_letters(out, title, latin1)?;
         writeln!(out)?;
@@ -119,7 +116,7 @@ fn print_refrains(out: &mut impl Write, cues: &[Cue], folded_text: &[u8], latin1
 
 /// Tells of a missing occurrence which one it is and how many there are.
 fn tell_missing(told: &mut Vec<u8>, cue: &Cue, folded_text: &[u8], latin1: bool) -> io::Result<()> {
-    write!(told, ": ordinal {} of ", cue.ordinal)?;
+    write!(told, ": ordinal {} of ", cue.read.ordinal)?;
     print_phrase(told, cue, latin1)?;
     write!(told, ", total {}", refrain(cue, folded_text).len())
 }
@@ -140,7 +137,7 @@ fn show(text_path: &Path, book_path: &Path, latin1: bool) -> Result<(), Failure>
     })?;
 
     let mut out = BufWriter::new(io::stdout().lock());
-    print_cues(&mut out, &book, &places, latin1)
+    print_cues(&mut out, &cues, &places, latin1)
         .and_then(|()| writeln!(out))
         .and_then(|()| print_refrains(&mut out, &cues, &folded_text, latin1))
         .and_then(|()| out.flush())
