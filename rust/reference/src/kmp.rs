@@ -21,9 +21,9 @@ fn make(phrase: &[u8]) -> Vec<u16> {
         let entry = (1..j).rev().find(|&k| p(k) != p(j) && border(k - 1, j - 1)).unwrap_or(0);
         b.push(entry as u16);
     }
-    // b[m + 1] is 1 plus the length of the longest proper border of P.
-    let longest = (0..m).rev().find(|&length| border(length, m)).expect("the empty word is a border");
-    b.push(1 + longest as u16);
+    // b[m + 1] is 1 plus the length of the longest proper border of P. The empty phrase has none, and here too 0 stands for none.
+    let longest = (0..m).rev().find(|&length| border(length, m));
+    b.push(longest.map_or(0, |length| 1 + length as u16));
     b
 }
 

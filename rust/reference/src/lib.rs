@@ -2,7 +2,7 @@
 //! that it is compared with.
 //!
 //! [`find`] is the find call; [`finder_output`] is what the finder program prints. Each engine has a file of its own, with its table's rule and its
-//! steps. Tables are made by brute force from their rules. [`read_book`], [`title`] and [`write_cue`]
+//! steps. Tables are made by brute force from their rules; [`kmp_table`] and its like make one by itself. [`read_book`], [`title`] and [`write_cue`]
 //! are the calls of the cue book; [`cues`], [`read_cue`] and [`read_field`] are what they are made of. [`resolve`] is the resolver, which searches by
 //! brute force and shares nothing with the engines.
 
@@ -19,6 +19,7 @@ mod kmp;
 mod naive;
 mod resolver;
 mod sunday;
+mod tables;
 
 #[cfg(test)]
 mod worked_examples;
@@ -28,6 +29,7 @@ pub use find::find;
 pub use finder::finder_output;
 pub use fold::{fold, fold_text};
 pub use resolver::resolve;
+pub use tables::{double_window_table, horspool_table, kmp_table, sunday_table};
 
 /// What an engine gives: the places, rising, counted from 0, and the number of looks at a pair P[j], T[i].
 #[derive(Default)]

@@ -1,0 +1,93 @@
+//! The program `vectors`: the file that the gate holds its output to is built again here from the reference alone, case by case in the program's order.
+
+use libretto_tests::programs::repository;
+use reference::{double_window_table, find, horspool_table, kmp_table, sunday_table};
+use std::fmt::Display;
+use std::fs;
+use std::ops::Range;
+
+type Maker = fn(&[u8], &mut [u16]);
+
+/// A line: what is asked, then numbers, one space before each.
+fn line<T: Display>(asked: &str, numbers: impl IntoIterator<Item = T>) -> String {
+    let numbers: String = numbers.into_iter().map(|number| format!(" {number}")).collect();
+    format!("{asked}{numbers}\n")
+}
+
+/// Some entries of a table of this length that is 9 throughout before the makers come over it.
+fn table(asked: &str, makers: &[Maker], length: usize, pattern: &str, shown: Range<usize>) -> String {
+    let mut table = vec![9; length];
+    for make in makers {
+        make(pattern.as_bytes(), &mut table);
+    }
+    line(&format!("{asked} {pattern}"), &table[shown])
+}
+
+fn tables() -> String {
+    let kmp = |pattern, count| table("kmp table", &[kmp_table], 16, pattern, 0..count);
+    let in_five = |pattern| table("kmp table in five", &[kmp_table], 5, pattern, 0..5);
+    let sunday = |pattern, shown| table("sunday table", &[sunday_table], 257, pattern, shown);
+    let horspool = |pattern, shown| table("horspool table", &[horspool_table], 257, pattern, shown);
+    let double = |pattern, shown| table("double table", &[double_window_table], 65_537, pattern, shown);
+    // A row is a letter's, and the letters from 0x60 to 0x6D are shown of it.
+    let row = |letter: u8| 256 * letter as usize + 0x60..256 * letter as usize + 0x6e;
+    let lines = [
+        vec![kmp("a", 3), kmp("aaaa", 6), kmp("aaab", 6), kmp("abab", 6), kmp("abaababaab", 12), kmp("abcabcacab", 12), kmp("", 2)],
+        vec![in_five("abcab"), in_five("abca")],
+        vec![sunday("la", 96..110), sunday("la", 255..257), sunday("abcabcacab", 96..110), sunday("~", 125..128)],
+        vec![horspool("la", 96..110), horspool("la", 255..257), horspool("abcabcacab", 96..110), horspool("~", 125..128)],
+        vec![table("letter tables in 255", &[sunday_table, horspool_table], 255, "la", 96..110)],
+        vec![double("aba", row(b'a')), double("aba", row(b'b')), double("aba", row(b'c')), double("aba", 65_535..65_537)],
+        [b'a', b'b', b'c', b'd'].map(|letter| double("abcabcacab", row(letter))).to_vec(),
+    ];
+    lines.concat().concat()
+}
+
+/// A find with a scratch of so many entries, and a list of four: all that it gives.
+fn found(asked: &str, method: u32, pattern: &[u8], text: &[u8], room: usize) -> String {
+    let (mut scratch, mut list) = (vec![9; room], [9; 4]);
+    let (refusal, total, comparisons) = find(method, pattern, text, &mut scratch, &mut list);
+    line(asked, [refusal, total, comparisons].into_iter().chain(list))
+}
+
+const NAMES: [&str; 7] = ["naive", "kmp", "horspool", "sunday", "fjs", "double", "unknown"];
+const ROOM: usize = 65_792;
+
+/// A case of a few letters.
+fn case(method: u32, pattern: &str, text: &str, room: usize) -> String {
+    let asked = format!("{} {pattern} in {text} {room}", NAMES[method as usize]);
+    found(&asked, method, pattern.as_bytes(), text.as_bytes(), room)
+}
+
+/// A case of m letters a in n letters a.
+fn limit(method: u32, m: usize, n: usize) -> String {
+    found(&format!("{} {m} {n}", NAMES[method as usize]), method, &vec![b'a'; m], &vec![b'a'; n], ROOM)
+}
+
+fn engine(method: u32, enough: usize) -> String {
+    let mut lines = vec![case(method, "aba", "ababa", enough)];
+    lines.extend(enough.checked_sub(1).map(|short| case(method, "aba", "ababa", short)));
+    lines.push(case(method, "", "ababa", enough));
+    lines.push(case(method, "lalala", "lala lalalalala lala", ROOM));
+    lines.push(case(method, "ababa", "aba", ROOM));
+    lines.extend([(1024, 1030), (1025, 1030), (2, 32_768), (2, 32_769)].map(|(m, n)| limit(method, m, n)));
+    lines.concat()
+}
+
+#[test]
+fn the_expected_output() {
+    let path = repository().join("crates/vectors/stdout");
+    let held = fs::read_to_string(&path).unwrap_or_else(|error| panic!("{}: {error}", path.display()));
+    let engines = [0, 4, 256, 256, 260, ROOM].into_iter().zip(0..).map(|(enough, method)| engine(method, enough));
+    let due = [tables(), engines.collect(), case(6, "aba", "ababa", ROOM)].concat();
+
+    let (mut held_lines, mut due_lines) = (held.lines(), due.lines());
+    for number in 1.. {
+        let (held_line, due_line) = (held_lines.next(), due_lines.next());
+        assert_eq!(held_line, due_line, "line {number}, in the file and by the reference");
+        if held_line.is_none() {
+            break;
+        }
+    }
+    assert!(held == due, "the line ends differ");
+}
