@@ -249,6 +249,41 @@ title-part book k =
     ap (λ (l : List ℕ). take (fieldLength (afterOrdinal rest)) l)
     (sym (drop-drop (titleStart rest) (cuePlace book k) book) ∙ sym (drop-drop (fieldSize (afterPhrase rest) + 3) (fieldSize rest) rest) ∙ sym (drop-drop 3 (fieldSize (afterPhrase rest)) (afterPhrase rest)))
 
+-- ---- along an accepted book: what is left of it at a place reads as these cues, the first with that index
+
+pub record Left (book : List ℕ) (index place : ℕ) (rest : List Cue) : Type 0 where
+  pub more : ℕ
+  pub count : more + index ≡ 999
+  pub reads : readUpTo more index (drop place book) ≡ cues rest
+
+pub left-all : {book : List ℕ} {cs : List Cue} → readBook book ≡ cues cs → Left book 0 0 cs
+unfolding readBook
+left-all e = record { more = 999; count = omega arith; reads = e }
+
+-- the first of them stands here, and the others after it
+pub record First (book : List ℕ) (index place : ℕ) (c : Cue) (later : List Cue) : Type 0 where
+  pub none : cueRefusal (drop place book) ≡ 0
+  pub cue : cueOf (drop place book) ≡ c
+  pub then : {end : ℕ} → end ≡ place + cueSize (drop place book) → Left book (index + 1) end later
+
+pub left-first : {book : List ℕ} {index place : ℕ} {c : Cue} {later : List Cue} → Left book index place (c ∷ later) → First book index place c later
+left-first {book} {index} {place} {c} {later} l =
+    let b = begins (l .more) index (drop place book) c later (l .reads) in
+    record {
+      none = b .none;
+      cue = b .cue;
+      then = λ e.
+          record {
+            more = b .fewer;
+            count = omega (arith, l .count, b .fewer-is);
+            reads = ap₂ (λ (i : ℕ) (x : List ℕ). readUpTo (b .fewer) i x) (add-one index) (ap (λ (k : ℕ). drop k book) e ∙ after-at-cue book place) ∙ b .then;
+          };
+    }
+
+-- none is left where the book ends
+pub left-none : {book : List ℕ} {index place : ℕ} → Left book index place [] → length book ≤ place
+left-none {book} {index} {place} l = omega (arith, ends (l .more) index (drop place book) (l .reads), length-drop place book)
+
 -- ---- along a walk: the cues read so far, and the rest, are the whole book
 
 -- cues before what the rest reads as

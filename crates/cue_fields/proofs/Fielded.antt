@@ -9,7 +9,7 @@ use lib.Seq.{getD-take}
 use lib.Dec.{eqb, ltb}
 use denote.Enum.Declared as declared
 use borrow.Author.Tests.{eq-eqb, eqb-true, eqb-false, ltb-true, ltb-false}
-use Rattle.matching.proofs.Tests.{by-test}
+use Rattle.matching.proofs.Tests.{by-test, clash}
 use Rattle.cue_fields.specs.declared.Due.{Due}
 use Rattle.cue_fields.specs.declared.Due.the-variants.{Ordinal}
 use Rattle.cue_fields.specs.declared.FieldAnswer.{FieldAnswer}
@@ -26,10 +26,6 @@ pub record Fielded (due : Due) (rest : List ℕ) : Type 0 where
   pub lengths : allowed due (fieldLength rest) ≡ true
   pub whole : fieldSize rest ≤ length rest
   pub named : ordinalZero due (drop 3 rest) ≡ false
-
--- a number that is 0 and is not
-pub clash : {A : Type 0} {x : ℕ} (n : ℕ) → 1 ≤ n → x ≡ n → x ≡ 0 → A
-clash n h e z = absurd (omega arith)
 
 pub fielded : (due : Due) (rest : List ℕ) → fieldRefusal due rest ≡ 0 → Fielded due rest
 fielded due rest e =

@@ -5,7 +5,7 @@ use native.Mathlib.Omega.{arith}
 use mathlib.Core.Bool.{true, false, cond}
 use mathlib.Core.List.{List, [], _∷_}
 use lib.ListN.{length, getD, take, drop, length-drop}
-use lib.Seq.{take-all, drop-drop}
+use lib.Seq.{drop-drop}
 use lib.Dec.{eqb, ltb}
 use borrow.Author.Tests.{eq-eqb, ne-eqb, lt-ltb, le-ltb}
 use Rattle.matching.proofs.Tests.{cond-most}
@@ -14,16 +14,6 @@ use Rattle.cue_fields.specs.declared.FieldAnswer.the-variants.{Body, Ref
 use Rattle.cue_fields.specs.Field.{tagOf, allowed, fieldLength, fieldSize, ordinalZero, bodyRefusal, fieldRefusal, part, fieldAt, FieldRead}
 
 -- ---- parts of a book
-
--- the part from a place on, as a lent part is given, is what is left there
-abbrev pub from : List ℕ → ℕ → List ℕ
-from l k = take (length l - k) (drop k l)
-
-pub from-is : (l : List ℕ) (k : ℕ) → from l k ≡ drop k l
-from-is l k = take-all (length l - k) (drop k l) (omega (arith, length-drop k l))
-
-pub from-twice : (l : List ℕ) (k j : ℕ) → from (from l k) j ≡ drop j (drop k l)
-from-twice l k j = from-is (from l k) j ∙ ap (λ (x : List ℕ). drop j x) (from-is l k)
 
 -- what is left after some bytes more, by places of the book
 pub after-field : (book : List ℕ) (place size : ℕ) → drop (place + size) book ≡ drop size (drop place book)

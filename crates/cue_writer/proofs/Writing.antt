@@ -7,12 +7,11 @@ use mathlib.Core.List.{List, _∷_, _++_, append-nil}
 use lib.ListN.{length, drop, length-append}
 use lib.Dec.{eqb, ltb}
 use borrow.Author.Tests.{eq-eqb, ne-eqb, lt-ltb, le-ltb, eqb-true, ltb-true, ltb-false, eqb-false}
-use Rattle.matching.proofs.Tests.{by-test}
+use Rattle.matching.proofs.Tests.{by-test, clash}
 use Rattle.pieces.specs.Pieces.{joined, putAll, Laid}
 use Rattle.pieces.proofs.Laid.{laid-front}
 use Rattle.cue_fields.specs.Field.{twoBytes, fieldBytes}
 use Rattle.cue_book.specs.Format.{Cue, cueBytes, Valid}
-use Rattle.cue_fields.proofs.Fielded.{clash}
 use Rattle.cue_writer.specs.Writing.{writeRefusal, Written, fieldPieces}
 
 -- a cue's length

@@ -1,19 +1,20 @@
 -- What `Found` asks of a refused find, and of one that is not refused; the limits that hold where a find is not refused; and a pattern longer than the text. For any engine.
 -- Assumes nothing.
-use mathlib.Core.Path.{_≡_, _∙_, sym, ap}
+use mathlib.Core.Path.{_≡_, refl, _∙_, sym, ap}
 use Prim.Native.Nat.{ℕ, suc, _≤_, _<_}
 use native.Mathlib.Omega.{arith}
-use mathlib.Core.Bool.{true, false, cond}
+use mathlib.Core.Bool.{true, false}
 use mathlib.Core.List.{List, [], _++_}
 use lib.ListN.{length, drop}
-use lib.Dec.{eqb, ltb}
+use lib.Dec.{eqb}
 use borrow.Author.Tests.{eqb-true, eq-eqb, ne-eqb, eqb-false, ltb-false, le-ltb}
 use Rattle.matching.specs.declared.Finding.{Finding}
 use Rattle.matching.specs.Occurrences.{occurrences}
 use Rattle.matching.specs.Received.{received}
 use Rattle.matching.specs.Machine.{runFrom, comparedIn}
-use Rattle.matching.specs.Find.{refusal, Engine, compared, refusalOf, Found}
-use Rattle.matching.proofs.Tests.{by-test, cond-most}
+use Rattle.matching.specs.Find.{findTests, refusal, Engine, compared, refusalOf, Found}
+use Rattle.matching.proofs.Tests.{by-test}
+use Rattle.matching.proofs.Refusals.{Passed, none-met, numbersTo, all-passed, met-most}
 use Rattle.matching.proofs.Received.{received-none}
 use Rattle.matching.proofs.Occurrences.{occurrences-none}
 use Rattle.matching.proofs.Machine.{windows-off}
@@ -27,37 +28,21 @@ pub record Within (m n has needs : ℕ) : Type 0 where
 
 -- no refusal means that the limits are kept
 pub within : (m n has needs : ℕ) → refusal m n has needs ≡ 0 → Within m n has needs
-unfolding refusal
+unfolding refusal Passed numbersTo
 within m n has needs e =
-    by-test (λ t. _≡_ {A = ℕ} (cond t 2 (cond (ltb 1024 m) 3 (cond (ltb 32768 n) 4 (cond (ltb has needs) 5 0)))) 0 → Within m n has needs) (eqb m 0)
-    (λ _ e. absurd (omega arith))
-    (λ m0.
-    by-test (λ t. _≡_ {A = ℕ} (cond t 3 (cond (ltb 32768 n) 4 (cond (ltb has needs) 5 0))) 0 → Within m n has needs) (ltb 1024 m)
-    (λ _ e. absurd (omega arith))
-    (λ m1.
-    by-test (λ t. _≡_ {A = ℕ} (cond t 4 (cond (ltb has needs) 5 0)) 0 → Within m n has needs) (ltb 32768 n)
-    (λ _ e. absurd (omega arith))
-    (λ n1.
-    by-test (λ t. _≡_ {A = ℕ} (cond t 5 0) 0 → Within m n has needs) (ltb has needs)
-    (λ _ e. absurd (omega arith))
-    (λ s1 _. record { some = omega (arith, eqb-false m 0 m0); short = ltb-false 1024 m m1; small = ltb-false 32768 n n1; room = ltb-false has needs s1 }))))
-    e
+    let p = all-passed 5 (findTests m n has needs) refl e in
+    record { some = omega (arith, eqb-false m 0 (p .0)); short = ltb-false 1024 m (p .1 .0); small = ltb-false 32768 n (p .1 .1 .0); room = ltb-false has needs (p .1 .1 .1 .0) }
 
 -- and the limits kept mean no refusal
 pub none-refused : (m n has needs : ℕ) → Within m n has needs → refusal m n has needs ≡ 0
-unfolding refusal
-none-refused m n has needs w = rw (ne-eqb m 0 (λ e. omega (arith, w .some)), le-ltb 1024 m (w .short), le-ltb 32768 n (w .small), le-ltb has needs (w .room))
+unfolding refusal Passed
+none-refused m n has needs w =
+    none-met (findTests m n has needs) (ne-eqb m 0 (λ e. omega (arith, w .some)), (le-ltb 1024 m (w .short), (le-ltb 32768 n (w .small), (le-ltb has needs (w .room), tt))))
 
 -- a refusal's number is at most 5
 pub refusal-most : (m n has needs : ℕ) → refusal m n has needs ≤ 5
-unfolding refusal
-refusal-most m n has needs =
-    let two : 2 ≤ 5 = omega arith in
-    let three : 3 ≤ 5 = omega arith in
-    let four : 4 ≤ 5 = omega arith in
-    let five : 5 ≤ 5 = omega arith in
-    let zero : 0 ≤ 5 = omega arith in
-    cond-most (eqb m 0) two (cond-most (ltb 1024 m) three (cond-most (ltb 32768 n) four (cond-most (ltb has needs) five zero)))
+unfolding refusal numbersTo
+refusal-most m n has needs = met-most 5 (findTests m n has needs) refl
 
 -- a pattern longer than the text, of any lengths: no window lies in the text, so no engine compares a pair
 pub longer-costs : (e : Engine) (P T : List ℕ) → length T < length P → compared e P T ≡ 0

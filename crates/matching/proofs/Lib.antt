@@ -2,6 +2,8 @@
 pub mod Tests
 pub mod Occurrences
 pub mod Received
+pub mod Parts
+pub mod Refusals
 pub mod Letters
 pub mod Machine
 pub mod Find

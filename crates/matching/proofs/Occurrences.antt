@@ -86,6 +86,12 @@ rest-none P T s none = rest-skip P T (suc (length T)) s (λ j a _. none j a) ∙
 pub rest-past : (P T : List ℕ) (s : ℕ) → 1 ≤ length P → length T < s + length P → rest P T s ≡ []
 rest-past P T s h l = rest-none P T s (λ j a. no-occurrence P T j h (λ st. omega (arith, st .inside)))
 
+-- an entry of a list is a member of it
+pub member : (l : List ℕ) (i : ℕ) → i < length l → List·Memᴰ (getD l i 0) l
+member [] i h = absurd (omega arith)
+member (x ∷ l) zero h = List·Memᴰ·head refl
+member (x ∷ l) (suc i) h = List·Memᴰ·tail (member l i (omega arith))
+
 -- a pattern longer than the text stands nowhere
 pub occurrences-none : (P T : List ℕ) → length T < length P → occurrences P T ≡ []
 unfolding occurrences

@@ -2,9 +2,10 @@
 use mathlib.Core.Path.{_≡_, refl, sym, ap, _∙_}
 use Prim.Native.Nat.{_+_, _-_, ℕ, zero, suc, _≤_}
 use native.Mathlib.Omega.{arith}
-use mathlib.Core.List.{List, [], _∷_, _++_}
-use lib.ListN.{length, set, length-append, length-take, length-drop, take}
-use lib.Seq.{take-nil}
+use native.Mathlib.Numerals.{add-one}
+use mathlib.Core.List.{List, [], _∷_, _++_, append-nil}
+use lib.ListN.{length, set, replicate, length-replicate, length-append, length-take, length-drop, take, drop}
+use lib.Seq.{take-nil, take-all, drop-length}
 use Rattle.matching.specs.Received.{received}
 
 module _ {ℓ} {A : Type ℓ} where
@@ -45,3 +46,33 @@ module _ {ℓ} {A : Type ℓ} where
   received-first [] values = ap (take (length values)) (received-full values) ∙ take-nil (length values)
   received-first (y ∷ list) [] = refl
   received-first (y ∷ list) (x ∷ values) = ap (take (suc (length values))) (received-cons y x list values) ∙ ap (λ (l : List A). x ∷ l) (received-first list values)
+
+  -- a list with room for all values has them at its front
+  pub received-front : (list values : List A) → length values ≤ length list → received list values ≡ values ++ drop (length values) list
+  unfolding received
+  received-front list values h = ap (λ (l : List A). l ++ drop (length values) list) (take-all (length list) values h)
+
+-- ---- a list made one value throughout, entry by entry
+
+module _ {ℓ} {A : Type ℓ} (a : A) where
+  replicate-more : (n : ℕ) → replicate n a ++ a ∷ [] ≡ replicate (suc n) a
+  replicate-more zero = refl
+  replicate-more (suc n) = ap (λ (l : List A). a ∷ l) (replicate-more n)
+
+  -- none yet, one more, and all
+  pub cleared-none : (list : List A) → list ≡ received list (replicate 0 a)
+  cleared-none list = sym (received-none list)
+
+  pub cleared-more : (list : List A) (i : ℕ) → set (received list (replicate i a)) i a ≡ received list (replicate (i + 1) a)
+  cleared-more list i =
+      ap (λ (k : ℕ). set (received list (replicate i a)) k a) (sym (length-replicate i a)) ∙ received-more list (replicate i a) a
+      ∙ ap (received list) (replicate-more i ∙ ap (λ (k : ℕ). replicate k a) (sym (add-one i)))
+
+  pub cleared-all : (list : List A) (i : ℕ) → i ≡ length list → received list (replicate i a) ≡ replicate (length list) a
+  cleared-all list i e =
+      let size : length (replicate i a) ≡ length list = length-replicate i a ∙ e in
+      received-front list (replicate i a) (omega (arith, size))
+      ∙ ap (λ (k : ℕ). replicate i a ++ drop k list) size
+      ∙ ap (λ (l : List A). replicate i a ++ l) (drop-length list)
+      ∙ append-nil (replicate i a)
+      ∙ ap (λ (k : ℕ). replicate k a) e

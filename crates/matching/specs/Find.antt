@@ -2,17 +2,27 @@
 use mathlib.Core.Path.{_≡_}
 use Prim.Native.Nat.{ℕ}
 use mathlib.Core.Bool.{Bool, cond}
-use mathlib.Core.List.{List, _++_}
+use mathlib.Core.List.{List, [], _∷_, _++_}
 use lib.ListN.{length, drop}
 use lib.Dec.{eqb, ltb}
 use Rattle.matching.specs.declared.Finding.{Finding}
 use Rattle.matching.specs.Occurrences.{occurrences}
 use Rattle.matching.specs.Received.{received}
+use Rattle.matching.specs.Refusals.{Test, firstMet}
 use Rattle.matching.specs.Machine.{Steps, run, comparedIn}
 
--- the refusals 2 to 5 in their order, 0 for none: a pattern of m letters, a text of n, a scratch that has so many entries and needs so many
+-- the refusals of a find: a pattern of m letters, a text of n, a scratch that has so many entries and needs so many
+abbrev pub findTests : ℕ → ℕ → ℕ → ℕ → List Test
+findTests m n has needs =
+    (eqb m 0, 2) ∷
+    (ltb 1024 m, 3) ∷
+    (ltb 32768 n, 4) ∷
+    (ltb has needs, 5) ∷
+    []
+
 unfoldable pub refusal : ℕ → ℕ → ℕ → ℕ → ℕ
-refusal m n has needs = cond (eqb m 0) 2 (cond (ltb 1024 m) 3 (cond (ltb 32768 n) 4 (cond (ltb has needs) 5 0)))
+unfolding firstMet
+refusal m n has needs = firstMet (findTests m n has needs)
 
 -- what engines differ in
 pub record Engine : Type 0 where

@@ -1,6 +1,7 @@
--- What a reader of this crate's contracts must believe: the matching problem, the lent list, comparing letters, the window machine, and what a find promises.
+-- What a reader of this crate's contracts must believe: the matching problem, the lent list, refusals as a table, comparing letters, the window machine, and what a find promises.
 pub mod Occurrences
 pub mod Received
+pub mod Refusals
 pub mod Letters
 pub mod Machine
 pub mod Find

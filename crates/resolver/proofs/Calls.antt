@@ -3,50 +3,27 @@ use mathlib.Core.Path.{_≡_, refl, sym, ap, subst, _∙_}
 use Prim.Native.Nat.{ℕ, _*_, _≤_, _<_}
 use native.Mathlib.Omega.{arith}
 use mathlib.Core.Logic.{_⊎_, ⊎-elim}
-use mathlib.Core.Bool.{Bool, true, cond, _||_}
+use mathlib.Core.Bool.{Bool, true, cond}
 use mathlib.Core.List.{List, _++_, map}
 use lib.ListN.{length, drop, replicate}
 use lib.Dec.{eqb, ltb}
 use borrow.Author.Tests.{eq-eqb, ne-eqb, eqb-true, eqb-false, lt-ltb, le-ltb, ltb-true, ltb-false}
 use Rattle.matching.specs.Received.{received}
-use Rattle.matching.proofs.Tests.{by-test, cond-most}
+use Rattle.matching.proofs.Tests.{by-test}
+use Rattle.matching.proofs.Refusals.{Passed, numbersTo, all-passed, met-most}
 use Rattle.matching.proofs.Received.{received-none}
 use Rattle.fold.specs.Fold.{folded}
-use Rattle.cue_fields.proofs.Fielded.{clash}
 use Rattle.cue_book.specs.declared.Answer.{Answer}
 use Rattle.cue_book.specs.Format.{Cue}
 use Rattle.cue_book.specs.Reading.{refused, cues, readBook, refusalOf, numberOf, cuesIn}
 use Rattle.cue_book.specs.Places.{bookAnswer}
 use Rattle.cue_book.proofs.Books.{refused-book, book-most, accepted-book}
-use Rattle.resolver.specs.Resolver.{resolveFrom, memoryRefusal, Outcome, refusing, withBook, Lent, lengths, outcome, Resolved}
+use Rattle.resolver.specs.Resolver.{resolveFrom, memoryTests, memoryRefusal, Outcome, refusing, withBook, Lent, lengths, outcome, Resolved}
 use Rattle.resolver.specs.Walking.{Placed}
 
 -- ---- the tests of the memory
 
 module _ (n copy phrase scratch : ℕ) where
-  pub memory-text : 32768 < n → memoryRefusal n copy phrase scratch ≡ 4
-  unfolding memoryRefusal
-  memory-text h = rw (lt-ltb 32768 n h)
-
-  module _ (small : n ≤ 32768) where
-    pub memory-scratch : scratch < 1281 → memoryRefusal n copy phrase scratch ≡ 5
-    unfolding memoryRefusal
-    memory-scratch h = rw (le-ltb 32768 n small, lt-ltb scratch 1281 h)
-
-    module _ (tables : 1281 ≤ scratch) where
-      pub memory-copy : copy < n → memoryRefusal n copy phrase scratch ≡ 6
-      unfolding memoryRefusal
-      memory-copy h = rw (le-ltb 32768 n small, le-ltb scratch 1281 tables, lt-ltb copy n h)
-
-      module _ (whole : n ≤ copy) where
-        pub memory-phrase : phrase < 1024 → memoryRefusal n copy phrase scratch ≡ 6
-        unfolding memoryRefusal
-        memory-phrase h = rw (le-ltb 32768 n small, le-ltb scratch 1281 tables, le-ltb copy n whole, lt-ltb phrase 1024 h)
-
-        pub memory-fine : 1024 ≤ phrase → memoryRefusal n copy phrase scratch ≡ 0
-        unfolding memoryRefusal
-        memory-fine h = rw (le-ltb 32768 n small, le-ltb scratch 1281 tables, le-ltb copy n whole, le-ltb phrase 1024 h)
-
   -- what holds where none refuses
   pub record Enough : Type 0 where
     pub small : n ≤ 32768
@@ -55,22 +32,14 @@ module _ (n copy phrase scratch : ℕ) where
     pub buffer : 1024 ≤ phrase
 
   pub enough : memoryRefusal n copy phrase scratch ≡ 0 → Enough
+  unfolding memoryRefusal Passed numbersTo
   enough e =
-      by-test (λ _. Enough) (ltb 32768 n)
-      (λ t. clash 4 (omega arith) (memory-text (ltb-true 32768 n t)) e)
-      (λ t.
-      let small = ltb-false 32768 n t in
-      by-test (λ _. Enough) (ltb scratch 1281)
-      (λ u. clash 5 (omega arith) (memory-scratch small (ltb-true scratch 1281 u)) e)
-      (λ u.
-      let tables = ltb-false scratch 1281 u in
-      by-test (λ _. Enough) (ltb copy n)
-      (λ v. clash 6 (omega arith) (memory-copy small tables (ltb-true copy n v)) e)
-      (λ v.
-      let whole = ltb-false copy n v in
-      by-test (λ _. Enough) (ltb phrase 1024)
-      (λ w. clash 6 (omega arith) (memory-phrase small tables whole (ltb-true phrase 1024 w)) e)
-      (λ w. record { small = small; tables = tables; whole = whole; buffer = ltb-false phrase 1024 w }))))
+      let p = all-passed 6 (memoryTests n copy phrase scratch) refl e in
+      record { small = ltb-false 32768 n (p .0); tables = ltb-false scratch 1281 (p .1 .0); whole = ltb-false copy n (p .1 .1 .0); buffer = ltb-false phrase 1024 (p .1 .1 .1 .0) }
+
+  memory-most : memoryRefusal n copy phrase scratch ≤ 6
+  unfolding memoryRefusal numbersTo
+  memory-most = met-most 6 (memoryTests n copy phrase scratch) refl
 
 -- ---- the outcome by what the book reads as
 
@@ -128,15 +97,6 @@ module _ (book text copy phrase scratch entries : List ℕ) where
         record { answer = rw e (placed .answer); copied = rw e c; cleared = rw e p; emptied = rw e s; entered = rw e (placed .entered) }
 
 -- ---- what a call that gives 0 or 12 has passed
-
-memory-most : (n copy phrase scratch : ℕ) → memoryRefusal n copy phrase scratch ≤ 6
-unfolding memoryRefusal
-memory-most n copy phrase scratch =
-    let four : 4 ≤ 6 = omega arith in
-    let five : 5 ≤ 6 = omega arith in
-    let six : 6 ≤ 6 = omega arith in
-    let zero : 0 ≤ 6 = omega arith in
-    cond-most (ltb 32768 n) four (cond-most (ltb scratch 1281) five (cond-most (ltb copy n || ltb phrase 1024) six zero))
 
 -- a number that is 0 or 12 and is neither
 neither : {A : Type 0} {k : ℕ} → (k ≡ 0) ⊎ (k ≡ 12) → 1 ≤ k → k ≤ 11 → A

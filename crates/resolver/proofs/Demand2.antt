@@ -5,7 +5,7 @@ use Prim.Native.Nat.{ℕ, zero, suc, _+_, _-_, _*_, _≤_, _<_}
 use native.Mathlib.Omega.{arith}
 use mathlib.Core.Logic.{_⊎_, inl, inr, ⊎-elim}
 use mathlib.Core.Bool.{Bool, true, false, cond, false≢true}
-use mathlib.Core.List.{List, [], _∷_, _++_, append-assoc, map, List·Memᴰ, List·Memᴰ·head, List·Memᴰ·tail}
+use mathlib.Core.List.{List, [], _∷_, _++_, append-assoc, map}
 use lib.ListN.{length, getD, take, drop, length-append, length-drop, length-take}
 use lib.Seq.{drop-drop, take-append-le, drop-append-le}
 use lib.Dec.{eqb, leb}
@@ -13,7 +13,8 @@ use borrow.Author.Tests.{ne-eqb, leb-true}
 use Rattle.matching.specs.Occurrences.{occurrences, hasNth}
 use Rattle.matching.specs.Received.{received}
 use Rattle.matching.proofs.Tests.{by-test, both}
-use Rattle.matching.proofs.Occurrences.{Occurs, occurrences-are, occurrences-rise}
+use Rattle.matching.proofs.Occurrences.{Occurs, member, occurrences-are, occurrences-rise}
+use Rattle.matching.proofs.Received.{received-front}
 use Rattle.fold.specs.Fold.{capital, folded}
 use Rattle.fold.proofs.Fold.{text-twice}
 use Rattle.cue_book.specs.declared.Answer.{Answer}
@@ -23,7 +24,6 @@ use Rattle.line_column.specs.declared.LineColumn.{LineColumn}
 use Rattle.line_column.specs.LineColumn.{breaks, sinceBreak, lineColumn}
 use Rattle.resolver.specs.Resolver.{cueOccurrences, isThere, placeOf, entriesOf, Resolution, after, resolveFrom, Outcome, lengths, outcome, Resolved}
 use Rattle.resolver.specs.Told.{CameOut, AllOut, OneMissing}
-use Rattle.resolver.proofs.Resolving.{received-front}
 use Rattle.resolver.proofs.Walking.{resolve-there, resolve-missing}
 use Rattle.resolver.proofs.Calls.{Worked, worked}
 
@@ -196,12 +196,6 @@ pub record Named (text : List ℕ) (c : Cue) (place : ℕ) : Type 0 where
   pub stands : Occurs (map folded (c .phrase)) (map folded text) place
   pub earlier : (i : ℕ) → i + 1 < c .ordinal → getD (cueOccurrences text c) i 0 < place
   pub later : (i : ℕ) → c .ordinal ≤ i → i < length (cueOccurrences text c) → place < getD (cueOccurrences text c) i 0
-
--- an entry of a list is a member of it
-member : (l : List ℕ) (i : ℕ) → i < length l → List·Memᴰ (getD l i 0) l
-member [] i h = absurd (omega arith)
-member (x ∷ l) zero h = List·Memᴰ·head refl
-member (x ∷ l) (suc i) h = List·Memᴰ·tail (member l i (omega arith))
 
 pub cue-names : (text : List ℕ) (c : Cue) → isThere text c ≡ true → Named text c (placeOf text c)
 unfolding cueOccurrences

@@ -1,5 +1,4 @@
 -- The laws of resolving, and demand 2.
-pub mod Clearing
 pub mod Resolving
 pub mod Walking
 pub mod Calls

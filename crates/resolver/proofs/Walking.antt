@@ -19,8 +19,8 @@ use Rattle.fjs.proofs.Place as places
 use Rattle.fjs.specs.Nth.{nthOf}
 use Rattle.line_column.specs.LineColumn.{lineColumn}
 use Rattle.cue_book.specs.Format.{Cue}
-use Rattle.cue_book.specs.Reading.{cueSize, cues, readUpTo, readBook, cuesIn}
-use Rattle.cue_book.proofs.Books.{begins, Begins, after-at-cue}
+use Rattle.cue_book.specs.Reading.{cueSize, cues, readBook, cuesIn}
+use Rattle.cue_book.proofs.Books.{Left, left-all, First, left-first}
 use Rattle.resolver.specs.Resolver.{isThere, placeOf, entriesOf, Resolution, after, resolveFrom}
 use Rattle.resolver.specs.Walking.{Placed}
 
@@ -83,9 +83,7 @@ module _ (index : ℕ) (text : List ℕ) (c : Cue) (cs : List Cue) where
 pub record Doing (book text : List ℕ) (cs : List Cue) (entries₀ : List ℕ) (index at place : ℕ) (entries : List ℕ) : Type 0 where
   pub rest : List Cue
   pub all : index + length rest ≡ length cs
-  pub more : ℕ
-  pub left : more + index ≡ 999
-  pub reads : readUpTo more index (drop place book) ≡ cues rest
+  pub left : Left book index place rest
   pub written : List ℕ
   pub counted : length written ≡ at
   pub three : at ≡ 3 * index
@@ -97,24 +95,23 @@ empty [] e = refl
 empty (c ∷ l) e = absurd (omega arith)
 
 pub doing-first : (book text : List ℕ) (cs : List Cue) (entries : List ℕ) → readBook book ≡ cues cs → Doing book text cs entries 0 0 0 entries
-unfolding readBook
 doing-first book text cs entries e =
-    record { rest = cs; all = omega arith; more = 999; left = omega arith; reads = e; written = []; counted = refl; three = omega arith; entered = sym (received-none entries); whole = refl }
+    record { rest = cs; all = omega arith; left = left-all e; written = []; counted = refl; three = omega arith; entered = sym (received-none entries); whole = refl }
 
 -- the next cue
-pub record Next (book : List ℕ) (more index place : ℕ) (rest : List Cue) : Type 0 where
+pub record Next (book : List ℕ) (index place : ℕ) (rest : List Cue) : Type 0 where
   pub cue : Cue
   pub later : List Cue
   pub is : rest ≡ cue ∷ later
-  pub begun : Begins more index (drop place book) cue later
+  pub begun : First book index place cue later
 
 module _ {book text : List ℕ} {cs : List Cue} {entries₀ : List ℕ} {index at place : ℕ} {entries : List ℕ} (d : Doing book text cs entries₀ index at place entries) where
-  pub doing-cue : index < length cs → Next book (d .more) index place (d .rest)
-  doing-cue h = by-rest (d .rest) (d .all) (d .reads)
+  pub doing-cue : index < length cs → Next book index place (d .rest)
+  doing-cue h = by-rest (d .rest) (d .all) (d .left)
     where
-      by-rest : (rest : List Cue) → index + length rest ≡ length cs → readUpTo (d .more) index (drop place book) ≡ cues rest → Next book (d .more) index place rest
-      by-rest [] n e = absurd (omega arith)
-      by-rest (c ∷ later) n e = record { cue = c; later = later; is = refl; begun = begins (d .more) index (drop place book) c later e }
+      by-rest : (rest : List Cue) → index + length rest ≡ length cs → Left book index place rest → Next book index place rest
+      by-rest [] n l = absurd (omega arith)
+      by-rest (c ∷ later) n l = record { cue = c; later = later; is = refl; begun = left-first l }
 
   -- no cue is left
   pub doing-end : length cs ≤ index → resolveFrom 0 text cs ≡ record { refusal = 0; number = index; written = d .written }
@@ -131,7 +128,7 @@ module _ {book text : List ℕ} {cs : List Cue} {entries₀ : List ℕ} {index a
       ap₂ (λ (l : List ℕ) (v : ℕ). set (set (set l at v) (at + 1) (lineColumn text v .line)) (at + 2) (lineColumn text v .column)) (d .entered) p
       ∙ put-three entries₀ (d .written) at (placeOf text c) (lineColumn text (placeOf text c) .line) (lineColumn text (placeOf text c) .column) (d .counted)
 
-  module _ (n : Next book (d .more) index place (d .rest)) where
+  module _ (n : Next book index place (d .rest)) where
     -- the occurrence of this cue does not exist
     pub doing-missing : isThere text (n .cue) ≡ false → resolveFrom 0 text cs ≡ record { refusal = 12; number = index; written = d .written }
     doing-missing no-such =
@@ -147,9 +144,7 @@ module _ {book text : List ℕ} {cs : List Cue} {entries₀ : List ℕ} {index a
         record {
           rest = n .later;
           all = omega (arith, d .all, ap length (n .is));
-          more = b .fewer;
-          left = omega (arith, d .left, b .fewer-is);
-          reads = ap₂ (λ (i : ℕ) (l : List ℕ). readUpTo (b .fewer) i l) (add-one index) (ap (λ (k : ℕ). drop k book) e ∙ after-at-cue book place) ∙ b .then;
+          left = b .then e;
           written = d .written ++ entriesOf text (n .cue);
           counted = length-append (d .written) (entriesOf text (n .cue)) ∙ omega (arith, d .counted);
           three = omega (arith, d .three);

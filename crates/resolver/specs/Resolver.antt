@@ -1,12 +1,13 @@
 -- The resolver (document 01, "Cue book, folding, lines"): from the cues that a book reads as to places, lines and columns. It says nothing of how the places are found.
 use mathlib.Core.Path.{_≡_}
 use Prim.Native.Nat.{ℕ, suc, _-_, _*_}
-use mathlib.Core.Bool.{Bool, true, false, cond, _||_}
+use mathlib.Core.Bool.{Bool, true, false, cond}
 use mathlib.Core.List.{List, [], _∷_, _++_, map}
 use lib.ListN.{length, getD, drop, replicate}
 use lib.Dec.{eqb, ltb}
 use Rattle.matching.specs.Occurrences.{occurrences, hasNth}
 use Rattle.matching.specs.Received.{received}
+use Rattle.matching.specs.Refusals.{Test, firstMet}
 use Rattle.fold.specs.Fold.{folded}
 use Rattle.cue_book.specs.declared.Answer.{Answer}
 use Rattle.cue_book.specs.Format.{Cue}
@@ -55,9 +56,18 @@ resolveFrom index text (c ∷ cs) =
 
 -- ---- a call
 
--- the tests before the book is read: text above 32,768 (4), scratch below 1,281 (5), copy below n or phrase buffer below 1,024 (6); 0 for none
+-- the refusals before the book is read: a text of n bytes, and the lengths of text copy, phrase buffer and scratch
+abbrev pub memoryTests : ℕ → ℕ → ℕ → ℕ → List Test
+memoryTests n copy phrase scratch =
+    (ltb 32768 n, 4) ∷
+    (ltb scratch 1281, 5) ∷
+    (ltb copy n, 6) ∷
+    (ltb phrase 1024, 6) ∷
+    []
+
 unfoldable pub memoryRefusal : ℕ → ℕ → ℕ → ℕ → ℕ
-memoryRefusal n copy phrase scratch = cond (ltb 32768 n) 4 (cond (ltb scratch 1281) 5 (cond (ltb copy n || ltb phrase 1024) 6 0))
+unfolding firstMet
+memoryRefusal n copy phrase scratch = firstMet (memoryTests n copy phrase scratch)
 
 -- whether the cues are resolved, so that the lent memory is worked on, and what comes of it
 pub record Outcome : Type 0 where

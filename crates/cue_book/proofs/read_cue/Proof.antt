@@ -6,7 +6,7 @@ use native.Mathlib.Omega.{arith}
 use lib.ListN.{length}
 use Rattle.cue_fields.specs.declared.Due.the-variants.{Phrase, Ordinal, Title}
 use Rattle.cue_fields.specs.Field.{numberIn, fieldRefusal}
-use Rattle.cue_fields.proofs.Fields.{from-is}
+use Rattle.matching.proofs.Parts.{from-is}
 use Rattle.cue_fields.proofs.Fielded.{fielded, BodyAt, body-at, refused-some, body-inside, ordinal-two, after-at}
 use Rattle.cue_book.proofs.Cues.{cue-first, cue-second, cue-refused, first-two, cue-read}
 use Rattle.cue_book.proofs.read_cue.Statement.{statement}

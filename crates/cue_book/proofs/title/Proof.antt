@@ -7,7 +7,7 @@ use native.Mathlib.Omega.{arith}
 use lib.ListN.{length, take, drop, length-drop}
 use lib.Seq.{length-take-le}
 use Rattle.cue_book.specs.declared.Part.{Part}
-use Rattle.cue_fields.proofs.Fields.{from-is}
+use Rattle.matching.proofs.Parts.{from-is}
 use Rattle.cue_book.proofs.Books.{placed-inside}
 use Rattle.cue_book.proofs.title.Statement.{statement}
 use Rattle.cue_book.proofs.title.Tie as tie

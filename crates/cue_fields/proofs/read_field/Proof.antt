@@ -7,8 +7,9 @@ use Prim.Native.Nat.{ℕ, _-_, _≤_}
 use native.Mathlib.Omega.{arith}
 use lib.ListN.{length, getD, drop, length-drop}
 use borrow.Author.Tests.{eqb-true, eqb-false}
+use Rattle.matching.proofs.Parts.{from-is, from-twice}
 use Rattle.cue_fields.specs.Field.{tagOf, allowed, numberIn, fieldLength, bodyRefusal, fieldRefusal}
-use Rattle.cue_fields.proofs.Fields.{from, from-is, from-twice, field-short, field-tag, field-length, field-body, at-refused, at-body}
+use Rattle.cue_fields.proofs.Fields.{field-short, field-tag, field-length, field-body, at-refused, at-body}
 use Rattle.cue_fields.proofs.read_field.Statement.{statement}
 use Rattle.cue_fields.proofs.read_field.Tie as tie
 

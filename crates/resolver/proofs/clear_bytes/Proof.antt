@@ -4,8 +4,7 @@ use Prim.Native.Nat.{_-_, _≤_}
 use native.Mathlib.Omega.{arith}
 use lib.ListN.{length, replicate}
 use Rattle.matching.specs.Received.{received}
-use Rattle.matching.proofs.Received.{length-received}
-use Rattle.resolver.proofs.Clearing.{cleared-none, cleared-more, cleared-all}
+use Rattle.matching.proofs.Received.{length-received, cleared-none, cleared-more, cleared-all}
 use Rattle.resolver.proofs.clear_bytes.Statement.{statement}
 use Rattle.resolver.proofs.clear_bytes.Tie as tie
 

@@ -7,9 +7,10 @@ use native.Mathlib.Omega.{arith}
 use lib.ListN.{length, take, drop, length-map}
 use lib.Seq.{take-at}
 use Rattle.matching.specs.Occurrences.{occurrences}
+use Rattle.matching.proofs.Received.{received-front}
 use Rattle.fjs.specs.Nth.{nthOf}
 use Rattle.fold.specs.Fold.{folded}
-use Rattle.resolver.proofs.Resolving.{received-front, nth-is}
+use Rattle.resolver.proofs.Resolving.{nth-is}
 use Rattle.resolver.proofs.find_cue.Statement.{statement}
 use Rattle.resolver.proofs.find_cue.Tie as tie
 

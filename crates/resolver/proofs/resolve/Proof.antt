@@ -6,12 +6,12 @@ use Prim.Native.Nat.{ℕ, _*_, _≤_}
 use native.Mathlib.Omega.{arith}
 use lib.ListN.{length, take, drop, replicate, length-map}
 use lib.Seq.{take-at}
+use Rattle.matching.proofs.Received.{received-front}
 use Rattle.fold.specs.Fold.{folded}
 use Rattle.cue_book.specs.declared.Answer.{Answer}
 use Rattle.cue_book.specs.Reading.{cues, readBook, numberOf, cuesIn}
 use Rattle.cue_book.proofs.Books.{accepted-book}
 use Rattle.resolver.specs.Resolver.{memoryRefusal}
-use Rattle.resolver.proofs.Resolving.{received-front}
 use Rattle.resolver.proofs.Calls.{Enough, enough, resolved-memory, resolved-book, resolved-room, resolved-works}
 use Rattle.resolver.proofs.resolve.Statement.{statement}
 use Rattle.resolver.proofs.resolve.Tie as tie

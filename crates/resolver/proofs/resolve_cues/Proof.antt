@@ -30,7 +30,7 @@ abbrev μ-loop : tie.MeasureT-loop
     count - index
 
 -- the next cue of the book, and where it stands
-next : (i : tie.In-loop Inv-loop μ-loop) → let l = i .before in Next (l .before .before .before .before .before .before .before .args .book .now) (l .loop .inv .0 .more) (l .loop .index) (l .loop .place) (l .loop .inv .0 .rest)
+next : (i : tie.In-loop Inv-loop μ-loop) → let l = i .before in Next (l .before .before .before .before .before .before .before .args .book .now) (l .loop .index) (l .loop .place) (l .loop .inv .0 .rest)
 next i = doing-cue (i .before .loop .inv .0) (omega (arith, i .loop-test .taken, i .before .before .before .before .before .before .before .before .pre .number))
 
 module _ (k : tie.After-known-told Inv-loop μ-loop) where
@@ -143,13 +143,13 @@ put-entries-requires : tie.Need-put-entries-requires Inv-loop μ-loop
 put-entries-requires c κs =
     let l = c .before .before .before .before .before .before .before .before .before .before .before .before .before .before .before .before .before in
     let d = l .loop .inv .0 in
-    (omega (arith, d .three, d .left), l .before .before .before .before .before .before .before .pre .small)
+    (omega (arith, d .three, d .left .count), l .before .before .before .before .before .before .before .pre .small)
 
 add-index : tie.Need-add-index Inv-loop μ-loop
-add-index c = omega (arith, c .before .before .before .before .before .before .before .before .before .before .before .before .before .before .before .before .before .before .before .before .loop .inv .0 .left)
+add-index c = omega (arith, c .before .before .before .before .before .before .before .before .before .before .before .before .before .before .before .before .before .before .before .before .loop .inv .0 .left .count)
 
 add-at : tie.Need-add-at Inv-loop μ-loop
-add-at c = let d = c .before .before .before .before .before .before .before .before .before .before .before .before .before .before .before .before .before .before .before .before .loop .inv .0 in omega (arith, d .three, d .left)
+add-at c = let d = c .before .before .before .before .before .before .before .before .before .before .before .before .before .before .before .before .before .before .before .before .loop .inv .0 in omega (arith, d .three, d .left .count)
 
 loop-less : tie.Need-loop-less Inv-loop μ-loop
 loop-less c = omega (arith, c .before .before .before .before .before .before .before .before .before .before .before .before .before .before .before .before .before .before .before .loop-test .taken)

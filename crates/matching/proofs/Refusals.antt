@@ -1,0 +1,50 @@
+-- A table of refusals: the row that is met after those that were passed (`met`), none where all were passed (`none-met`, `all-passed`), and the largest number (`met-most`). Assumes nothing.
+use mathlib.Core.Path.{_≡_, refl}
+use Prim.Native.Nat.{ℕ, _≤_}
+use native.Mathlib.Omega.{arith}
+use mathlib.Core.Bool.{Bool, true, false, cond, _&&_}
+use mathlib.Core.List.{List, [], _∷_, _++_}
+use lib.Dec.{leb}
+use borrow.Author.Tests.{leb-true}
+use Rattle.matching.specs.Refusals.{Test, firstMet}
+use Rattle.matching.proofs.Tests.{by-test, both, cond-most}
+
+-- every row was passed
+unfoldable pub Passed : List Test → Type 0
+Passed [] = Unit {0}
+Passed (t ∷ ts) = (t .0 ≡ false) × Passed ts
+
+pub met : (before : List Test) (t : Test) (later : List Test) → Passed before → t .0 ≡ true → firstMet (before ++ t ∷ later) ≡ t .1
+unfolding firstMet Passed
+met [] t later p e = rw e
+met (b ∷ before) t later p e = rw (p .0) (met before t later (p .1) e)
+
+pub none-met : (ts : List Test) → Passed ts → firstMet ts ≡ 0
+unfolding firstMet Passed
+none-met [] p = refl
+none-met (t ∷ ts) p = rw (p .0) (none-met ts (p .1))
+
+-- and back, where the numbers are from 1 to `most`; a test that computes on a table
+unfoldable pub numbersTo : ℕ → List Test → Bool
+numbersTo most [] = true
+numbersTo most (t ∷ ts) = (leb 1 (t .1) && leb (t .1) most) && numbersTo most ts
+
+pub all-passed : (most : ℕ) (ts : List Test) → numbersTo most ts ≡ true → firstMet ts ≡ 0 → Passed ts
+unfolding firstMet Passed numbersTo
+all-passed most [] w e = tt
+all-passed most (t ∷ ts) w e =
+    let w′ = both (leb 1 (t .1) && leb (t .1) most) (numbersTo most ts) w in
+    let here = both (leb 1 (t .1)) (leb (t .1) most) (w′ .0) in
+    by-test (λ b. cond b (t .1) (firstMet ts) ≡ 0 → (b ≡ false) × Passed ts) (t .0)
+    (λ _ z. absurd (omega (arith, leb-true 1 (t .1) (here .0))))
+    (λ _ z. (refl, all-passed most ts (w′ .1) z))
+    e
+
+-- the number is at most `most`
+pub met-most : (most : ℕ) (ts : List Test) → numbersTo most ts ≡ true → firstMet ts ≤ most
+unfolding firstMet numbersTo
+met-most most [] w = omega arith
+met-most most (t ∷ ts) w =
+    let w′ = both (leb 1 (t .1) && leb (t .1) most) (numbersTo most ts) w in
+    let here = both (leb 1 (t .1)) (leb (t .1) most) (w′ .0) in
+    cond-most (t .0) (leb-true (t .1) most (here .1)) (met-most most ts (w′ .1))
