@@ -19,7 +19,7 @@ use Rattle.double_window.specs.DoubleWindow.{doubleWindow}
 use Rattle.fold.specs.Fold.{folded}
 use Rattle.cue_book.specs.Format.{Cue, cueWith, bookBytes}
 use Rattle.cue_book.specs.Reading.{Reading, refused, cues, readBook}
-use Rattle.resolver.specs.Resolver.{Outcome, outcome}
+use Rattle.outcome.specs.Outcome.{Outcome, outcome}
 
 -- a row: what is asked, and the answer that document 01 gives
 pub data Case : Type 0 where
@@ -76,7 +76,7 @@ holds (horspoolEntries P letters entries others) = same (horspoolTable P) (tabul
 holds (find e P T positions comparisons) = same (occurrences P T) positions && same (positionsIn (run (e .steps) P T)) positions && eqb (compared e P T) comparisons
 holds (fold letter small) = eqb (folded letter) small
 holds (book bytes cs) = readsAs (readBook bytes) cs && same (bookBytes cs) bytes
-holds (resolve bytes T refusal number entries) = comesTo (outcome bytes T (record { copy = length T; phrase = 1024; scratch = 1281; entries = 3 })) refusal number entries
+holds (resolve bytes T refusal number entries) = comesTo (outcome folded (record { text = T; copy = length T; phrase = 1024; scratch = 1281; entries = 3 }) (readBook bytes)) refusal number entries
 
 -- every row holds
 unfoldable pub allHold : List Case → Bool

@@ -1,5 +1,4 @@
--- The laws of resolving, and demand 2.
-pub mod Resolving
+-- The laws of a call and of the walk over its cues, and demand 2.
 pub mod Walking
 pub mod Calls
 pub mod Demand2

@@ -1,30 +1,46 @@
--- The walk over the cues: what is known along it, and how it goes on, ends and breaks off. Assumes nothing.
+-- The walk over the cues: the occurrence that was found, what is known along the walk, and how it goes on, ends and breaks off. Assumes nothing.
 use mathlib.Core.Path.{_≡_, refl, sym, ap, ap₂, _∙_}
 use mathlib.Core.Logic.{⊎-elim}
 use Prim.Native.Nat.{ℕ, suc, _+_, _-_, _*_, _≤_, _<_}
 use native.Mathlib.Omega.{arith}
 use native.Mathlib.Numerals.{add-one}
 use mathlib.Core.Bool.{true, false}
-use mathlib.Core.List.{List, [], _∷_, _++_, append-assoc, append-nil}
+use mathlib.Core.List.{List, [], _∷_, _++_, append-assoc}
 use lib.ListN.{length, getD, drop, set, length-append, length-drop}
 use types.Run.{OneOf}
+use lib.Dec.{eqb}
+use borrow.Author.Tests.{eq-eqb}
 use denote.Enum.Declared as declared
-use Rattle.matching.specs.Occurrences.{hasNth}
+use Rattle.matching.specs.Occurrences.{occurrences, hasNth}
+use Rattle.matching.specs.Find.{refusalOf}
 use Rattle.matching.specs.Received.{received}
 use Rattle.matching.proofs.Tests.{by-test}
 use Rattle.matching.proofs.Received.{received-none, received-more}
+use Rattle.matching.proofs.Find.{none-refused}
+use Rattle.fold.specs.Fold.{folded}
 use Rattle.fjs.specs.declared.Place.{Place}
 use Rattle.fjs.specs.declared.Place.the-variants.{Refused, At, Nothing}
 use Rattle.fjs.proofs.Place as places
-use Rattle.fjs.specs.Nth.{nthOf}
+use Rattle.fjs.specs.Fjs.{fjs}
+use Rattle.fjs.specs.Nth.{nthOf, nthAnswer, Located}
 use Rattle.line_column.specs.LineColumn.{lineColumn}
 use Rattle.cue_book.specs.Format.{Cue}
 use Rattle.cue_book.specs.Reading.{cueSize, cues, readBook, cuesIn}
 use Rattle.cue_book.proofs.Books.{Left, left-all, First, left-first}
-use Rattle.resolver.specs.Resolver.{isThere, placeOf, entriesOf, Resolution, after, resolveFrom}
+use Rattle.outcome.specs.Outcome.{Numbered, numberedFrom, chosen, isThere, placeOf, Judged, judge, entriesOf, resolution}
+use Rattle.outcome.proofs.Judging.{judge-on, judge-missing, judge-end}
+use Rattle.outcome.proofs.Placing.{entries-count, entries-more}
 use Rattle.resolver.specs.Walking.{Placed}
 
 -- ---- the occurrence that was found, or not
+
+-- FJS within its limits gives the occurrence of that ordinal
+pub nth-is : {P T scratch scratch′ : List ℕ} {ordinal : ℕ} {r : Place} → Located P T scratch ordinal r scratch′ → 1 ≤ length P → length P ≤ 1024 → length T ≤ 32768 → 1281 ≤ length scratch
+    → r ≡ nthOf (occurrences P T) ordinal
+unfolding nthAnswer
+nth-is {P} {T} {scratch} l some short small room =
+    let none : refusalOf fjs P T scratch ≡ 0 = none-refused (length P) (length T) (length scratch) (256 + (length P + 1)) (record { some = some; short = short; small = small; room = omega arith }) in
+    l .answer ∙ rw (eq-eqb (refusalOf fjs P T scratch) 0 none)
 
 placeIn : Place → ℕ
 placeIn (Refused number) = 0
@@ -67,36 +83,22 @@ put-three list written at a b c e =
     ap (λ (l : List ℕ). set (set l (at + 1) b) (at + 2) c) first ∙ ap (λ (l : List ℕ). set l (at + 2) c) second ∙ ap (λ (k : ℕ). set (received list two) k c) size₂ ∙ received-more list two c
     ∙ ap (received list) (append-assoc one (b ∷ []) (c ∷ []) ∙ append-assoc written (a ∷ []) (b ∷ c ∷ []))
 
--- ---- one cue of the whole
+-- ---- along the walk: the cues up to a place are judged, their entries put, and they and what the rest is judged are the whole
 
-module _ (index : ℕ) (text : List ℕ) (c : Cue) (cs : List Cue) where
-  pub resolve-there : isThere text c ≡ true → resolveFrom index text (c ∷ cs) ≡ after (entriesOf text c) (resolveFrom (suc index) text cs)
-  unfolding resolveFrom
-  resolve-there e = rw e
-
-  pub resolve-missing : isThere text c ≡ false → resolveFrom index text (c ∷ cs) ≡ record { refusal = 12; number = index; written = [] }
-  unfolding resolveFrom
-  resolve-missing e = rw e
-
--- ---- what is known along the walk
-
-pub record Doing (book text : List ℕ) (cs : List Cue) (entries₀ : List ℕ) (index at place : ℕ) (entries : List ℕ) : Type 0 where
+pub record Along (book text : List ℕ) (cs : List Cue) (entries₀ : List ℕ) (index at place : ℕ) (entries : List ℕ) : Type 0 where
   pub rest : List Cue
   pub all : index + length rest ≡ length cs
   pub left : Left book index place rest
-  pub written : List ℕ
-  pub counted : length written ≡ at
+  pub found : List ℕ
+  pub counted : length found ≡ index
   pub three : at ≡ 3 * index
-  pub entered : entries ≡ received entries₀ written
-  pub whole : resolveFrom 0 text cs ≡ after written (resolveFrom index text rest)
+  pub entered : entries ≡ received entries₀ (entriesOf text found)
+  pub whole : judge folded text [] (chosen cs) ≡ judge folded text found (numberedFrom index rest)
 
-empty : (l : List Cue) → length l ≡ 0 → l ≡ []
-empty [] e = refl
-empty (c ∷ l) e = absurd (omega arith)
-
-pub doing-first : (book text : List ℕ) (cs : List Cue) (entries : List ℕ) → readBook book ≡ cues cs → Doing book text cs entries 0 0 0 entries
-doing-first book text cs entries e =
-    record { rest = cs; all = omega arith; left = left-all e; written = []; counted = refl; three = omega arith; entered = sym (received-none entries); whole = refl }
+pub along-first : (book text : List ℕ) (cs : List Cue) (entries : List ℕ) → readBook book ≡ cues cs → Along book text cs entries 0 0 0 entries
+unfolding entriesOf
+along-first book text cs entries e =
+    record { rest = cs; all = omega arith; left = left-all e; found = []; counted = refl; three = omega arith; entered = sym (received-none entries); whole = refl }
 
 -- the next cue
 pub record Next (book : List ℕ) (index place : ℕ) (rest : List Cue) : Type 0 where
@@ -105,64 +107,70 @@ pub record Next (book : List ℕ) (index place : ℕ) (rest : List Cue) : Type 0
   pub is : rest ≡ cue ∷ later
   pub begun : First book index place cue later
 
-module _ {book text : List ℕ} {cs : List Cue} {entries₀ : List ℕ} {index at place : ℕ} {entries : List ℕ} (d : Doing book text cs entries₀ index at place entries) where
-  pub doing-cue : index < length cs → Next book index place (d .rest)
-  doing-cue h = by-rest (d .rest) (d .all) (d .left)
+module _ {book text : List ℕ} {cs : List Cue} {entries₀ : List ℕ} {index at place : ℕ} {entries : List ℕ} (d : Along book text cs entries₀ index at place entries) where
+  pub along-cue : index < length cs → Next book index place (d .rest)
+  along-cue h = by-rest (d .rest) (d .all) (d .left)
     where
       by-rest : (rest : List Cue) → index + length rest ≡ length cs → Left book index place rest → Next book index place rest
       by-rest [] n l = absurd (omega arith)
       by-rest (c ∷ later) n l = record { cue = c; later = later; is = refl; begun = left-first l }
 
   -- no cue is left
-  pub doing-end : length cs ≤ index → resolveFrom 0 text cs ≡ record { refusal = 0; number = index; written = d .written }
-  unfolding resolveFrom
-  doing-end h =
-      let none : d .rest ≡ [] = empty (d .rest) (omega (arith, d .all)) in
-      d .whole ∙ ap (λ (l : List Cue). after (d .written) (resolveFrom index text l)) none ∙ ap (λ (w : List ℕ). record { refusal = 0; number = index; written = w }) (append-nil (d .written))
+  pub along-end : length cs ≤ index → judge folded text [] (chosen cs) ≡ record { refusal = 0; number = index; places = d .found }
+  unfolding numberedFrom
+  along-end h =
+      d .whole ∙ ap (λ (l : List Cue). judge folded text (d .found) (numberedFrom index l)) (empty (d .rest) (omega (arith, d .all))) ∙ judge-end folded text (d .found)
+      ∙ ap (λ (n : ℕ). record { refusal = 0; number = n; places = d .found }) (d .counted)
+    where
+      empty : (l : List Cue) → length l ≡ 0 → l ≡ []
+      empty [] e = refl
+      empty (c ∷ l) e = absurd (omega arith)
 
   -- a cue's entries are put after those of the cues before it
-  pub doing-put : (c : Cue) {position : ℕ} → position ≡ placeOf text c
-      → set (set (set entries at position) (at + 1) (lineColumn text position .line)) (at + 2) (lineColumn text position .column) ≡ received entries₀ (d .written ++ entriesOf text c)
-  unfolding entriesOf
-  doing-put c p =
+  pub along-put : (c : Cue) {position : ℕ} → position ≡ placeOf folded text c
+      → set (set (set entries at position) (at + 1) (lineColumn text position .line)) (at + 2) (lineColumn text position .column) ≡ received entries₀ (entriesOf text (d .found ++ placeOf folded text c ∷ []))
+  along-put c p =
       ap₂ (λ (l : List ℕ) (v : ℕ). set (set (set l at v) (at + 1) (lineColumn text v .line)) (at + 2) (lineColumn text v .column)) (d .entered) p
-      ∙ put-three entries₀ (d .written) at (placeOf text c) (lineColumn text (placeOf text c) .line) (lineColumn text (placeOf text c) .column) (d .counted)
+      ∙ put-three entries₀ (entriesOf text (d .found)) at (placeOf folded text c) (lineColumn text (placeOf folded text c) .line) (lineColumn text (placeOf folded text c) .column)
+      (entries-count text (d .found) ∙ omega (arith, d .counted, d .three))
+      ∙ ap (received entries₀) (sym (entries-more text (d .found) (placeOf folded text c)))
 
   module _ (n : Next book index place (d .rest)) where
+    abbrev this : Numbered
+    this = record { number = index; cue = n .cue }
+
+    goes-on : judge folded text [] (chosen cs) ≡ judge folded text (d .found) (this ∷ numberedFrom (suc index) (n .later))
+    unfolding numberedFrom
+    goes-on = d .whole ∙ ap (λ (l : List Cue). judge folded text (d .found) (numberedFrom index l)) (n .is)
+
     -- the occurrence of this cue does not exist
-    pub doing-missing : isThere text (n .cue) ≡ false → resolveFrom 0 text cs ≡ record { refusal = 12; number = index; written = d .written }
-    doing-missing no-such =
-        d .whole ∙ ap (λ (l : List Cue). after (d .written) (resolveFrom index text l)) (n .is) ∙ ap (after (d .written)) (resolve-missing index text (n .cue) (n .later) no-such)
-        ∙ ap (λ (w : List ℕ). record { refusal = 12; number = index; written = w }) (append-nil (d .written))
+    pub along-missing : isThere folded text (n .cue) ≡ false → judge folded text [] (chosen cs) ≡ record { refusal = 12; number = index; places = d .found }
+    along-missing no-such = goes-on ∙ judge-missing folded text (d .found) this (numberedFrom (suc index) (n .later)) no-such
 
     -- it exists, and its entries are put
-    pub doing-next : {end : ℕ} {entries′ : List ℕ} → isThere text (n .cue) ≡ true → end ≡ place + cueSize (drop place book)
-        → entries′ ≡ received entries₀ (d .written ++ entriesOf text (n .cue)) → Doing book text cs entries₀ (index + 1) (at + 3) end entries′
-    unfolding entriesOf
-    doing-next {end} {entries′} there e put =
-        let b = n .begun in
+    pub along-next : {end : ℕ} {entries′ : List ℕ} → isThere folded text (n .cue) ≡ true → end ≡ place + cueSize (drop place book)
+        → entries′ ≡ received entries₀ (entriesOf text (d .found ++ placeOf folded text (n .cue) ∷ [])) → Along book text cs entries₀ (index + 1) (at + 3) end entries′
+    along-next there e put =
         record {
           rest = n .later;
           all = omega (arith, d .all, ap length (n .is));
-          left = b .then e;
-          written = d .written ++ entriesOf text (n .cue);
-          counted = length-append (d .written) (entriesOf text (n .cue)) ∙ omega (arith, d .counted);
+          left = n .begun .then e;
+          found = d .found ++ placeOf folded text (n .cue) ∷ [];
+          counted = length-append (d .found) (placeOf folded text (n .cue) ∷ []) ∙ omega (arith, d .counted);
           three = omega (arith, d .three);
           entered = put;
           whole =
-              d .whole ∙ ap (λ (l : List Cue). after (d .written) (resolveFrom index text l)) (n .is)
-              ∙ ap (after (d .written)) (resolve-there index text (n .cue) (n .later) there)
-              ∙ ap (λ (w : List ℕ). record { refusal = resolveFrom (suc index) text (n .later) .refusal; number = resolveFrom (suc index) text (n .later) .number; written = w })
-              (sym (append-assoc (d .written) (entriesOf text (n .cue)) (resolveFrom (suc index) text (n .later) .written)))
-              ∙ ap (λ (i : ℕ). after (d .written ++ entriesOf text (n .cue)) (resolveFrom i text (n .later))) (sym (add-one index));
+              goes-on ∙ judge-on folded text (d .found) this (numberedFrom (suc index) (n .later)) there
+              ∙ ap (λ (i : ℕ). judge folded text (d .found ++ placeOf folded text (n .cue) ∷ []) (numberedFrom i (n .later))) (sym (add-one index));
         }
 
 -- ---- the walk's answer
 
-pub placed : {book text entries : List ℕ} {entries′ written : List ℕ} {number index : ℕ} → resolveFrom 0 text (cuesIn (readBook book)) ≡ record { refusal = number; number = index; written = written }
-    → entries′ ≡ received entries written → Placed book text entries (record { refusal = number; number = index }) entries′
+pub placed : {book text entries entries′ places : List ℕ} {number index : ℕ} → judge folded text [] (chosen (cuesIn (readBook book))) ≡ record { refusal = number; number = index; places = places }
+    → entries′ ≡ received entries (entriesOf text places) → Placed book text entries (record { refusal = number; number = index }) entries′
+unfolding resolution
 placed {book} {text} {entries} e w =
     record {
-      answer = ap (λ (r : Resolution). record { refusal = r .refusal; number = r .number }) (sym e);
-      entered = w ∙ ap (λ (r : Resolution). received entries (r .written)) (sym e);
+      answer = ap (λ (j : Judged). record { refusal = j .refusal; number = j .number }) (sym e);
+      entered = w ∙ ap (λ (j : Judged). received entries (entriesOf text (j .places))) (sym e);
     }

@@ -7,7 +7,7 @@ use Rattle.matching.specs.Received.{received}
 use Rattle.fold.specs.Fold.{folded}
 use Rattle.cue_book.specs.declared.Answer.{Answer}
 use Rattle.cue_book.specs.Reading.{cues, readBook, cuesIn}
-use Rattle.resolver.specs.Resolver.{resolveFrom}
+use Rattle.outcome.specs.Outcome.{chosen, Resolution, resolution}
 
 -- every test before 12 was passed, and the text is folded
 pub record Ready (book : List ℕ) (count : ℕ) (text copy phrase scratch entries : List ℕ) : Type 0 where
@@ -19,7 +19,11 @@ pub record Ready (book : List ℕ) (count : ℕ) (text copy phrase scratch entri
   pub buffer : 1024 ≤ length phrase
   pub tables : 1281 ≤ length scratch
 
+-- what the book's cues resolve to
+abbrev pub resolves : List ℕ → List ℕ → Resolution
+resolves book text = resolution folded text (chosen (cuesIn (readBook book)))
+
 -- the answer, and the entries
 pub record Placed (book text entries : List ℕ) (r : Answer) (entries′ : List ℕ) : Type 0 where
-  pub answer : r ≡ record { refusal = resolveFrom 0 text (cuesIn (readBook book)) .refusal; number = resolveFrom 0 text (cuesIn (readBook book)) .number }
-  pub entered : entries′ ≡ received entries (resolveFrom 0 text (cuesIn (readBook book)) .written)
+  pub answer : r ≡ record { refusal = resolves book text .refusal; number = resolves book text .number }
+  pub entered : entries′ ≡ received entries (resolves book text .written)

@@ -11,7 +11,8 @@ ghost use Rattle.matching.specs.Occurrences.{occurrences};
 ghost use Rattle.fold.specs.Fold.{folded};
 ghost use Rattle.fjs.specs.Nth.{nthOf};
 ghost use Rattle.line_column.specs.LineColumn.{lineColumn};
-ghost use Rattle.resolver.specs.Resolver.{memoryRefusal, Resolved};
+ghost use Rattle.outcome.specs.Outcome.{memoryRefusal};
+ghost use Rattle.resolver.specs.Resolver.{Resolved};
 ghost use Rattle.resolver.specs.Walking.{Ready, Placed};
 
 // The tests of the text and of the lent memory, before the book is read; 0 for none.

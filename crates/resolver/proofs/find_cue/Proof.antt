@@ -10,7 +10,7 @@ use Rattle.matching.specs.Occurrences.{occurrences}
 use Rattle.matching.proofs.Received.{received-front}
 use Rattle.fjs.specs.Nth.{nthOf}
 use Rattle.fold.specs.Fold.{folded}
-use Rattle.resolver.proofs.Resolving.{nth-is}
+use Rattle.resolver.proofs.Walking.{nth-is}
 use Rattle.resolver.proofs.find_cue.Statement.{statement}
 use Rattle.resolver.proofs.find_cue.Tie as tie
 

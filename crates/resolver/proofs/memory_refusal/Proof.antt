@@ -2,7 +2,7 @@
 use native.Mathlib.Omega.{arith}
 use borrow.Author.Tests.{lt-ltb, le-ltb}
 use Rattle.matching.specs.Refusals.{firstMet}
-use Rattle.resolver.specs.Resolver.{memoryRefusal}
+use Rattle.outcome.specs.Outcome.{memoryRefusal}
 use Rattle.resolver.proofs.memory_refusal.Statement.{statement}
 use Rattle.resolver.proofs.memory_refusal.Tie as tie
 

@@ -11,13 +11,19 @@ use Rattle.fold.specs.Fold.{folded}
 use Rattle.cue_book.specs.declared.Answer.{Answer}
 use Rattle.cue_book.specs.Reading.{cues, readBook, numberOf, cuesIn}
 use Rattle.cue_book.proofs.Books.{accepted-book}
-use Rattle.resolver.specs.Resolver.{memoryRefusal}
-use Rattle.resolver.proofs.Calls.{Enough, enough, resolved-memory, resolved-book, resolved-room, resolved-works}
+use Rattle.outcome.specs.Outcome.{Call, callRefusal}
+use Rattle.outcome.proofs.Calls.{Enough, enough}
+use Rattle.resolver.specs.Resolver.{call}
+use Rattle.resolver.proofs.Calls.{resolved-memory, resolved-book, resolved-few, resolved-works}
 use Rattle.resolver.proofs.resolve.Statement.{statement}
 use Rattle.resolver.proofs.resolve.Tie as tie
 
+-- the call
+abbrev called : tie.Start → Call
+called s = let a = s .args in call (a .text .now) (a .copy .now) (a .phrase .now) (a .scratch .now) (a .entries .now)
+
 -- the memory passed its tests
-fine : (e : tie.Else1) → let a = e .before .before .before .before .before .before .before .before .args in memoryRefusal (length (a .text .now)) (length (a .copy .now)) (length (a .phrase .now)) (length (a .scratch .now)) ≡ 0
+fine : (e : tie.Else1) → callRefusal (called (e .before .before .before .before .before .before .before .before)) ≡ 0
 fine e = sym (e .before .memory-refusal .ensures) ∙ e .if1 .left
 
 -- the book was read
@@ -26,8 +32,8 @@ read e = accepted-book (e .before .before .before .before .before .before .befor
 
 -- the copy's front is the folded text
 module _ (l : tie.After-letters) where
-  lent : Enough (length (l .before .before .before .before .before .before .before .before .before .before .before .before .before .before .before .args .text .now)) (length (l .before .before .before .before .before .before .before .before .before .before .before .before .before .before .before .args .copy .now)) (length (l .before .before .before .before .before .before .before .before .before .before .before .before .before .before .before .args .phrase .now)) (length (l .before .before .before .before .before .before .before .before .before .before .before .before .before .before .before .args .scratch .now))
-  lent = enough _ _ _ _ (fine (l .before .before .before .before .before .before .before))
+  lent : Enough (called (l .before .before .before .before .before .before .before .before .before .before .before .before .before .before .before))
+  lent = enough (fine (l .before .before .before .before .before .before .before))
 
   copied : let a = l .before .before .before .before .before .before .before .before .before .before .before .before .before .before .before .args in l .letters .last .1 .0 ≡ map folded (a .text .now) ++ drop (length (a .text .now)) (a .copy .now)
   copied =
@@ -70,7 +76,7 @@ returns-3 c =
     let e = c .before .before in
     let r = read e in
     let number : e .before .before .read-book .result .number ≡ length (cuesIn (readBook (e .before .before .before .before .before .before .before .before .before .before .before .args .book .now))) = ap (λ (x : Answer). x .number) (e .before .before .read-book .ensures) ∙ r .1 in
-    resolved-room _ _ _ _ _ _ (fine (e .before .before .before)) (r .0) (omega (arith, number, c .if3 .taken))
+    resolved-few _ _ _ _ _ _ (fine (e .before .before .before)) (r .0) (omega (arith, number, c .if3 .taken))
 
 letters-requires : tie.Need-letters-requires
 letters-requires c κs = search needs

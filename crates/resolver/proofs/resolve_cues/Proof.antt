@@ -1,4 +1,4 @@
--- `resolver::resolve_cues` meets its contract. The loop's invariant: the entries of the cues so far are put, and they and what the rest resolves to are the whole (`Doing`); phrase buffer and
+-- `resolver::resolve_cues` meets its contract. The loop's invariant: the entries of the cues so far are put, and they and what the rest resolves to are the whole (`Along`); phrase buffer and
 -- scratch keep their lengths. Assumes nothing.
 use borrow.Author.Needs.{needs}
 use mathlib.Core.Path.{_≡_, refl, ap, ap₂, _∙_}
@@ -16,14 +16,14 @@ use Rattle.cue_book.specs.Format.{Cue, cueWith}
 use Rattle.cue_book.specs.Reading.{readBook, cuesIn}
 use Rattle.cue_fields.specs.Field.{part}
 use Rattle.cue_book.proofs.Cues.{CueAt, cue-at, cue-refused-some, phrase-inside}
-use Rattle.resolver.specs.Resolver.{cueOccurrences}
-use Rattle.resolver.proofs.Walking.{found-there, found-not, Doing, doing-first, Next, doing-cue, doing-end, doing-missing, doing-next, doing-put, placed}
+use Rattle.outcome.specs.Outcome.{cueOccurrences, entriesOf}
+use Rattle.resolver.proofs.Walking.{found-there, found-not, Along, along-first, Next, along-cue, along-end, along-missing, along-next, along-put, placed}
 use Rattle.resolver.proofs.resolve_cues.Statement.{statement}
 use Rattle.resolver.proofs.resolve_cues.Tie as tie
 
 abbrev Inv-loop : tie.InvT-loop
 Inv-loop book count text copy phrase₀ scratch₀ entries₀ index₀ at₀ place₀ phrase scratch entries index at place =
-    Doing book text (cuesIn (readBook book)) entries₀ index at place entries × ((length phrase ≡ length phrase₀) × (length scratch ≡ length scratch₀))
+    Along book text (cuesIn (readBook book)) entries₀ index at place entries × ((length phrase ≡ length phrase₀) × (length scratch ≡ length scratch₀))
 
 abbrev μ-loop : tie.MeasureT-loop
 μ-loop book count text copy phrase₀ scratch₀ entries₀ index₀ at₀ place₀ phrase scratch entries index at place =
@@ -31,7 +31,7 @@ abbrev μ-loop : tie.MeasureT-loop
 
 -- the next cue of the book, and where it stands
 next : (i : tie.In-loop Inv-loop μ-loop) → let l = i .before in Next (l .before .before .before .before .before .before .before .args .book .now) (l .loop .index) (l .loop .place) (l .loop .inv .0 .rest)
-next i = doing-cue (i .before .loop .inv .0) (omega (arith, i .loop-test .taken, i .before .before .before .before .before .before .before .before .pre .number))
+next i = along-cue (i .before .loop .inv .0) (omega (arith, i .loop-test .taken, i .before .before .before .before .before .before .before .before .pre .number))
 
 module _ (k : tie.After-known-told Inv-loop μ-loop) where
   this : let g = k .before .cue .given .0 in let l = k .before .before .before .before .before in
@@ -57,11 +57,13 @@ module _ (k : tie.After-known-told Inv-loop μ-loop) where
 
 -- the entries keep their length
 kept : (l : tie.At-loop Inv-loop μ-loop) → length (l .loop .entries) ≡ length (l .before .before .before .before .before .before .before .args .entries .now)
-kept l = ap length (l .loop .inv .0 .entered) ∙ length-received (l .before .before .before .before .before .before .before .args .entries .now) (l .loop .inv .0 .written)
+kept l =
+    let a = l .before .before .before .before .before .before .before .args in
+    ap length (l .loop .inv .0 .entered) ∙ length-received (a .entries .now) (entriesOf (a .text .now) (l .loop .inv .0 .found))
 
 -- what was looked for is the occurrence that the cue names
 found : (f : tie.After-find-cue Inv-loop μ-loop) → let k = f .before .before .before .before in let l = k .before .before .before .before .before in let c = next (k .before .before .before .before) .cue in
-    f .find-cue .result ≡ nthOf (cueOccurrences (l .before .before .before .before .before .before .before .args .text .now) c) (c .ordinal)
+    f .find-cue .result ≡ nthOf (cueOccurrences folded (l .before .before .before .before .before .before .before .args .text .now) c) (c .ordinal)
 unfolding cueOccurrences letters
 found f =
     let k = f .before .before .before .before in
@@ -74,7 +76,7 @@ found f =
     ∙ ap (λ (T : List ℕ). nthOf (occurrences (map folded (c .phrase)) T) (c .ordinal)) (s .pre .copied)
 
 loop-holds : tie.Need-loop-holds Inv-loop μ-loop
-loop-holds c = let s = c .before .before .before .before .before .before in let a = s .args in (doing-first (a .book .now) (a .text .now) (cuesIn (readBook (a .book .now))) (a .entries .now) (s .pre .read), (refl, refl))
+loop-holds c = let s = c .before .before .before .before .before .before in let a = s .args in (along-first (a .book .now) (a .text .now) (cuesIn (readBook (a .book .now))) (a .entries .now) (s .pre .read), (refl, refl))
 
 read-cue-requires : tie.Need-read-cue-requires Inv-loop μ-loop
 read-cue-requires c κs = search needs
@@ -137,7 +139,7 @@ returns-2 c =
     let k = f .before .before .before .before in
     let l = k .before .before .before .before .before in
     let n = next (k .before .before .before .before) in
-    placed (doing-missing (l .loop .inv .0) n (found-not _ _ (found f) (c .match2 .keys2))) (l .loop .inv .0 .entered)
+    placed (along-missing (l .loop .inv .0) n (found-not _ _ (found f) (c .match2 .keys2))) (l .loop .inv .0 .entered)
 
 put-entries-requires : tie.Need-put-entries-requires Inv-loop μ-loop
 put-entries-requires c κs =
@@ -164,7 +166,7 @@ loop-again c =
     let n = next (k .before .before .before .before) in
     let d = l .loop .inv .0 in
     let there = found-there _ _ (found f) (t .before .found .given .1) in
-    (doing-next d n (there .0) (this k .end-is) (p .put-entries .ensures ∙ doing-put d (n .cue) (there .1)), (f .find-cue .kept .1 .1 .1 .0 ∙ l .loop .inv .1 .0, f .find-cue .kept .1 .1 .1 .1 .0 ∙ l .loop .inv .1 .1))
+    (along-next d n (there .0) (this k .end-is) (p .put-entries .ensures ∙ along-put d (n .cue) (there .1)), (f .find-cue .kept .1 .1 .1 .0 ∙ l .loop .inv .1 .0, f .find-cue .kept .1 .1 .1 .1 .0 ∙ l .loop .inv .1 .1))
 
 same-length-7 : tie.Need-same-length-7 Inv-loop μ-loop
 same-length-7 c = c .before .loop .inv .1 .0
@@ -176,7 +178,7 @@ same-length-9 : tie.Need-same-length-9 Inv-loop μ-loop
 same-length-9 c = kept (c .before)
 
 returns-3 : tie.Need-returns-3 Inv-loop μ-loop
-returns-3 c = let l = c .before in let d = l .loop .inv .0 in placed (doing-end d (omega (arith, c .loop-test .left, l .before .before .before .before .before .before .before .pre .number))) (d .entered)
+returns-3 c = let l = c .before in let d = l .loop .inv .0 in placed (along-end d (omega (arith, c .loop-test .left, l .before .before .before .before .before .before .before .pre .number))) (d .entered)
 
 pub resolve-cues-spec : {M : Type 1} → statement M
 resolve-cues-spec =

@@ -1,0 +1,111 @@
+-- A call by its cases: what its tests leave, the outcome by what the book reads as, and what a call that gives 0 or 12 has passed. For any fold. Assumes nothing.
+use mathlib.Core.Path.{_≡_, refl, sym, ap, _∙_}
+use Prim.Native.Nat.{ℕ, _*_, _≤_, _<_}
+use native.Mathlib.Omega.{arith}
+use mathlib.Core.Logic.{_⊎_, ⊎-elim}
+use mathlib.Core.Bool.{Bool, true, cond}
+use mathlib.Core.List.{List}
+use lib.ListN.{length}
+use lib.Dec.{eqb, ltb}
+use borrow.Author.Tests.{eq-eqb, ne-eqb, eqb-true, eqb-false, lt-ltb, le-ltb, ltb-true, ltb-false}
+use Rattle.matching.proofs.Tests.{by-test}
+use Rattle.matching.proofs.Refusals.{Passed, numbersTo, all-passed, met-most}
+use Rattle.cue_book.specs.Format.{Cue}
+use Rattle.cue_book.specs.Reading.{refused, cues, readBook, refusalOf, numberOf, cuesIn}
+use Rattle.cue_book.proofs.Books.{refused-book, book-most, accepted-book}
+use Rattle.outcome.specs.Outcome.{chosen, memoryTests, memoryRefusal, Call, callRefusal, resolution, Outcome, refusing, withCues, withBook, outcome}
+use Rattle.outcome.proofs.Judging.{length-numbered}
+
+-- ---- the tests before the book is read
+
+-- what holds where none refuses
+pub record Enough (c : Call) : Type 0 where
+  pub small : length (c .text) ≤ 32768
+  pub tables : 1281 ≤ c .scratch
+  pub whole : length (c .text) ≤ c .copy
+  pub buffer : 1024 ≤ c .phrase
+
+pub enough : {c : Call} → callRefusal c ≡ 0 → Enough c
+unfolding memoryRefusal Passed numbersTo
+enough {c} e =
+    let p = all-passed 6 (memoryTests (length (c .text)) (c .copy) (c .phrase) (c .scratch)) refl e in
+    record {
+      small = ltb-false 32768 (length (c .text)) (p .0);
+      tables = ltb-false (c .scratch) 1281 (p .1 .0);
+      whole = ltb-false (c .copy) (length (c .text)) (p .1 .1 .0);
+      buffer = ltb-false (c .phrase) 1024 (p .1 .1 .1 .0);
+    }
+
+call-most : (c : Call) → callRefusal c ≤ 6
+unfolding memoryRefusal numbersTo
+call-most c = met-most 6 (memoryTests (length (c .text)) (c .copy) (c .phrase) (c .scratch)) refl
+
+module _ (f : ℕ → ℕ) (c : Call) where
+  -- ---- the outcome by its cases
+
+  pub outcome-refused : (book : List ℕ) {number : ℕ} → number ≡ callRefusal c → (number ≡ 0 → ⊥) → outcome f c (readBook book) ≡ refusing number 0
+  unfolding outcome
+  outcome-refused book e some = rw (ne-eqb (callRefusal c) 0 (λ z. some (e ∙ z)), e)
+
+  with-few : (cs : List Cue) → c .entries < 3 * length cs → withBook f c (cues cs) ≡ refusing 11 0
+  unfolding withBook withCues
+  with-few cs h = rw (lt-ltb (c .entries) (3 * length (chosen cs)) (omega (arith, length-numbered 0 cs)))
+
+  with-room : (cs : List Cue) → 3 * length cs ≤ c .entries → withBook f c (cues cs) ≡ record { works = true; resolution = resolution f (c .text) (chosen cs) }
+  unfolding withBook withCues
+  with-room cs h = rw (le-ltb (c .entries) (3 * length (chosen cs)) (omega (arith, length-numbered 0 cs)))
+
+  with-refused : (number index : ℕ) → withBook f c (refused number index) ≡ refusing number index
+  unfolding withBook
+  with-refused number index = refl
+
+  module _ (book : List ℕ) (fine : callRefusal c ≡ 0) where
+    outcome-fine : outcome f c (readBook book) ≡ withBook f c (readBook book)
+    unfolding outcome
+    outcome-fine = ap (λ (t : Bool). cond t (withBook f c (readBook book)) (refusing (callRefusal c) 0)) (eq-eqb (callRefusal c) 0 fine)
+
+    pub outcome-book : (refusalOf (readBook book) ≡ 0 → ⊥) → outcome f c (readBook book) ≡ refusing (refusalOf (readBook book)) (numberOf (readBook book))
+    outcome-book some = outcome-fine ∙ ap (withBook f c) (refused-book book some) ∙ with-refused (refusalOf (readBook book)) (numberOf (readBook book))
+
+    module _ {cs : List Cue} (read : readBook book ≡ cues cs) where
+      pub outcome-few : c .entries < 3 * length cs → outcome f c (readBook book) ≡ refusing 11 0
+      outcome-few h = outcome-fine ∙ ap (withBook f c) read ∙ with-few cs h
+
+      pub outcome-works : 3 * length cs ≤ c .entries → outcome f c (readBook book) ≡ record { works = true; resolution = resolution f (c .text) (chosen cs) }
+      outcome-works h = outcome-fine ∙ ap (withBook f c) read ∙ with-room cs h
+
+  -- ---- a call that gives 0 or 12
+
+  -- every test before 12 was passed, the book reads as its cues, and the outcome is theirs
+  pub record Worked (book : List ℕ) : Type 0 where
+    pub read : readBook book ≡ cues (cuesIn (readBook book))
+    pub room : 3 * length (cuesIn (readBook book)) ≤ c .entries
+    pub is : outcome f c (readBook book) ≡ record { works = true; resolution = resolution f (c .text) (chosen (cuesIn (readBook book))) }
+
+  abbrev given : List ℕ → ℕ
+  given book = outcome f c (readBook book) .resolution .refusal
+
+  -- no refusal before 12 is 0 or 12
+  idle : {A : Type 0} (book : List ℕ) {number index : ℕ} → (given book ≡ 0) ⊎ (given book ≡ 12) → outcome f c (readBook book) ≡ refusing number index → 1 ≤ number → number ≤ 11 → A
+  idle {A} book {number} j e some most =
+      let is : given book ≡ number = ap (λ (o : Outcome). o .resolution .refusal) e in
+      ⊎-elim {C = A} (λ (z : given book ≡ 0). absurd (omega arith)) (λ (z : given book ≡ 12). absurd (omega arith)) j
+
+  pub worked : (book : List ℕ) → (given book ≡ 0) ⊎ (given book ≡ 12) → Worked book
+  worked book j =
+      by-test (λ _. Worked book) (eqb (callRefusal c) 0)
+      (λ t. with-memory (eqb-true (callRefusal c) 0 t))
+      (λ t. let some = eqb-false (callRefusal c) 0 t in idle book j (outcome-refused book refl some) (omega arith) (omega (arith, call-most c)))
+    where
+      with-cues : callRefusal c ≡ 0 → readBook book ≡ cues (cuesIn (readBook book)) → Worked book
+      with-cues fine read =
+          let cs = cuesIn (readBook book) in
+          by-test (λ _. Worked book) (ltb (c .entries) (3 * length cs))
+          (λ t. idle book j (outcome-few book fine read (ltb-true (c .entries) (3 * length cs) t)) (omega arith) (omega arith))
+          (λ t. let h = ltb-false (c .entries) (3 * length cs) t in record { read = read; room = h; is = outcome-works book fine read h })
+
+      with-memory : callRefusal c ≡ 0 → Worked book
+      with-memory fine =
+          by-test (λ _. Worked book) (eqb (refusalOf (readBook book)) 0)
+          (λ t. with-cues fine (accepted-book book (eqb-true (refusalOf (readBook book)) 0 t) .0))
+          (λ t. let some = eqb-false (refusalOf (readBook book)) 0 t in idle book j (outcome-book book fine some) (omega arith) (omega (arith, book-most book)))

@@ -1,0 +1,135 @@
+-- What resolving the cues of a book comes to (document 01, "Cue book, folding, lines"): which cues are chosen, where each stands, the first fault, and what is written. It says nothing
+-- of how the places are found.
+use Prim.Native.Nat.{ℕ, suc, _-_, _*_}
+use mathlib.Core.Bool.{Bool, true, false, cond, not}
+use mathlib.Core.List.{List, [], _∷_, _++_, map}
+use lib.ListN.{length, getD}
+use lib.Dec.{eqb, ltb}
+use Rattle.matching.specs.Occurrences.{occurrences, hasNth}
+use Rattle.matching.specs.Refusals.{Test, firstMet}
+use Rattle.cue_book.specs.Format.{Cue}
+use Rattle.cue_book.specs.Reading.{Reading, refused, cues}
+use Rattle.line_column.specs.LineColumn.{lineColumn}
+
+-- ---- choose: the cues that are resolved, each with the number by which a fault names it
+
+pub record Numbered : Type 0 where
+  pub number : ℕ
+  pub cue : Cue
+
+-- the numbers rise by 1 from that one
+unfoldable pub numberedFrom : ℕ → List Cue → List Numbered
+numberedFrom k [] = []
+numberedFrom k (c ∷ cs) = record { number = k; cue = c } ∷ numberedFrom (suc k) cs
+
+-- all cues of a book, each by its index
+abbrev pub chosen : List Cue → List Numbered
+chosen cs = numberedFrom 0 cs
+
+-- ---- place: where a cue stands, by a fold f
+
+-- the occurrences of its folded phrase in the folded text
+unfoldable pub cueOccurrences : (ℕ → ℕ) → List ℕ → Cue → List ℕ
+unfolding occurrences
+cueOccurrences f text c = occurrences (map f (c .phrase)) (map f text)
+
+-- whether the occurrence that it names exists; ordinal 1 is the first
+abbrev pub isThere : (ℕ → ℕ) → List ℕ → Cue → Bool
+isThere f text c = hasNth (cueOccurrences f text c) (c .ordinal)
+
+-- where that occurrence stands
+abbrev pub placeOf : (ℕ → ℕ) → List ℕ → Cue → ℕ
+placeOf f text c = getD (cueOccurrences f text c) (c .ordinal - 1) 0
+
+-- ---- judge: the first fault, and the places before it
+
+-- the refusals of one cue: there is no such occurrence (12)
+abbrev pub cueTests : (ℕ → ℕ) → List ℕ → Cue → List Test
+cueTests f text c = (not (isThere f text c), 12) ∷ []
+
+unfoldable pub cueFault : (ℕ → ℕ) → List ℕ → Cue → ℕ
+unfolding firstMet cueOccurrences
+cueFault f text c = firstMet (cueTests f text c)
+
+-- 0 and the number of cues, or a refusal and the number of its cue; and the places of the cues before it
+pub record Judged : Type 0 where
+  pub refusal : ℕ
+  pub number : ℕ
+  pub places : List ℕ
+
+-- cue by cue, up to the first fault, where these places were found before
+unfoldable pub judge : (ℕ → ℕ) → List ℕ → List ℕ → List Numbered → Judged
+unfolding cueFault
+judge f text found [] = record { refusal = 0; number = length found; places = found }
+judge f text found (x ∷ xs) =
+    let rest = judge f text (found ++ placeOf f text (x .cue) ∷ []) xs in
+    cond (eqb (cueFault f text (x .cue)) 0) rest (record { refusal = cueFault f text (x .cue); number = x .number; places = found })
+
+-- ---- write: place, line and column of each; line and column are those of the text as lent
+
+unfoldable pub entriesOf : List ℕ → List ℕ → List ℕ
+unfolding lineColumn
+entriesOf text [] = []
+entriesOf text (p ∷ ps) = p ∷ lineColumn text p .line ∷ lineColumn text p .column ∷ entriesOf text ps
+
+-- ---- together: what is given back, and the entries written
+
+pub record Resolution : Type 0 where
+  pub refusal : ℕ
+  pub number : ℕ
+  pub written : List ℕ
+
+unfoldable pub resolution : (ℕ → ℕ) → List ℕ → List Numbered → Resolution
+unfolding judge entriesOf
+resolution f text xs = let j : Judged = judge f text [] xs in record { refusal = j .refusal; number = j .number; written = entriesOf text (j .places) }
+
+-- ---- a call
+
+-- the refusals before the book is read: a text of n bytes, and the lengths of text copy, phrase buffer and scratch
+abbrev pub memoryTests : ℕ → ℕ → ℕ → ℕ → List Test
+memoryTests n copy phrase scratch =
+    (ltb 32768 n, 4) ∷
+    (ltb scratch 1281, 5) ∷
+    (ltb copy n, 6) ∷
+    (ltb phrase 1024, 6) ∷
+    []
+
+unfoldable pub memoryRefusal : ℕ → ℕ → ℕ → ℕ → ℕ
+unfolding firstMet
+memoryRefusal n copy phrase scratch = firstMet (memoryTests n copy phrase scratch)
+
+-- what a call is told and lent, but for the book. What the lent memory held plays no part: only its lengths do
+pub record Call : Type 0 where
+  pub text : List ℕ
+  pub copy : ℕ
+  pub phrase : ℕ
+  pub scratch : ℕ
+  pub entries : ℕ
+
+abbrev pub callRefusal : Call → ℕ
+callRefusal c = memoryRefusal (length (c .text)) (c .copy) (c .phrase) (c .scratch)
+
+-- whether the cues are resolved, so that the lent memory is worked on, and what comes of it
+pub record Outcome : Type 0 where
+  pub works : Bool
+  pub resolution : Resolution
+
+-- refused, all as before
+abbrev pub refusing : ℕ → ℕ → Outcome
+refusing refusal number = record { works = false; resolution = record { refusal = refusal; number = number; written = [] } }
+
+-- fewer than 3 entries for each chosen cue (11); then the cues
+unfoldable pub withCues : (ℕ → ℕ) → Call → List Numbered → Outcome
+unfolding resolution
+withCues f c xs = cond (ltb (c .entries) (3 * length xs)) (refusing 11 0) (record { works = true; resolution = resolution f (c .text) xs })
+
+-- the book is read whole, 10 included; then its chosen cues
+unfoldable pub withBook : (ℕ → ℕ) → Call → Reading → Outcome
+unfolding numberedFrom withCues
+withBook f c (refused number index) = refusing number index
+withBook f c (cues cs) = withCues f c (chosen cs)
+
+-- the outcome of a call with what its book reads as
+unfoldable pub outcome : (ℕ → ℕ) → Call → Reading → Outcome
+unfolding memoryRefusal withBook
+outcome f c book = cond (eqb (callRefusal c) 0) (withBook f c book) (refusing (callRefusal c) 0)
