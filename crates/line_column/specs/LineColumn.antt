@@ -1,23 +1,29 @@
 -- The line rule (document 01, "Cue book, folding, lines"): line is 1 plus the bytes 10 before the place; column is 1 plus the bytes between the last byte 10 before the place, or the text's
 -- start, and the place.
-use Prim.Native.Nat.{ℕ, suc, _+_}
-use mathlib.Core.Bool.{cond}
-use mathlib.Core.List.{List, [], _∷_}
-use lib.ListN.{take}
+use Prim.Native.Nat.{ℕ, zero, suc, _+_, _-_, min}
+use mathlib.Core.Bool.{Bool, cond}
+use mathlib.Core.List.{List}
+use lib.ListN.{length, getD}
 use lib.Dec.{eqb}
 use Rattle.line_column.specs.declared.LineColumn.{LineColumn}
 
--- how many bytes 10 there are
-unfoldable pub breaks : List ℕ → ℕ
-breaks [] = 0
-breaks (b ∷ bytes) = cond (eqb b 10) (suc (breaks bytes)) (breaks bytes)
+-- whether the byte at a place ends a line
+unfoldable pub endsLine : List ℕ → ℕ → Bool
+endsLine text k = eqb (getD text k 0) 10
 
--- how many bytes stand after the last byte 10, or in all if there is none, where so many stood before: each byte 10 starts anew
-unfoldable pub sinceBreak : ℕ → List ℕ → ℕ
-sinceBreak k [] = k
-sinceBreak k (b ∷ bytes) = cond (eqb b 10) (sinceBreak 0 bytes) (sinceBreak (suc k) bytes)
+-- how many lines end before a place
+unfoldable pub endsBefore : List ℕ → ℕ → ℕ
+unfolding endsLine
+endsBefore text zero = 0
+endsBefore text (suc k) = cond (endsLine text k) (suc (endsBefore text k)) (endsBefore text k)
 
--- the line and the column of a place, from the bytes before it
+-- where the line of a place starts: after the last line end before it, or at the text's start
+unfoldable pub lineStart : List ℕ → ℕ → ℕ
+unfolding endsLine
+lineStart text zero = 0
+lineStart text (suc k) = cond (endsLine text k) (suc k) (lineStart text k)
+
+-- the line and the column of a place; a place past the text's end has those of the end
 unfoldable pub lineColumn : List ℕ → ℕ → LineColumn
-unfolding breaks sinceBreak
-lineColumn text place = record { line = breaks (take place text) + 1; column = sinceBreak 0 (take place text) + 1 }
+unfolding endsBefore lineStart
+lineColumn text place = record { line = endsBefore text (min place (length text)) + 1; column = min place (length text) - lineStart text (min place (length text)) + 1 }

@@ -1,9 +1,9 @@
 // The room of the line rule (document 01, "Cue book, folding, lines"): which line of a text a place stands in, and at which column.
 // It leans on `matching` for case analysis alone. The rule is one definition, `lineColumn`, and one function, so that another rule can take its place.
 ghost use mathlib.Core.Path.{_≡_};
-ghost use Prim.Native.Nat.{_+_, _≤_};
-ghost use lib.ListN.{length, take};
-ghost use Rattle.line_column.specs.LineColumn.{breaks, sinceBreak, lineColumn};
+ghost use Prim.Native.Nat.{_+_, _-_, _≤_};
+ghost use lib.ListN.{length};
+ghost use Rattle.line_column.specs.LineColumn.{endsBefore, lineStart, lineColumn};
 
 // A line and a column, both from 1.
 pub struct LineColumn {
@@ -14,7 +14,7 @@ pub struct LineColumn {
 // How many of the bytes from `start` up to `stop` end a line. They are at most 240, so that a byte holds the count and the compiler counts sixteen of them at a time.
 fn count_block(text: &[u8], start: usize, stop: usize) -> u8
     requires { ⌜ (start ≤ stop) × ((stop ≤ start + 240) × (stop ≤ length (now text))) ⌝ }
-    ensures { λ r. ⌜ breaks (take stop (now (text .entry))) ≡ breaks (take start (now (text .entry))) + r ⌝ }
+    ensures { λ r. ⌜ endsBefore (now (text .entry)) stop ≡ endsBefore (now (text .entry)) start + r ⌝ }
 {
     let mut count = 0;
     let mut i = start;
@@ -30,7 +30,7 @@ fn count_block(text: &[u8], start: usize, stop: usize) -> u8
 // How many of the first `end` bytes end a line, block by block.
 fn count_breaks(text: &[u8], end: usize) -> usize
     requires { ⌜ end ≤ length (now text) ⌝ }
-    ensures { λ r. ⌜ r ≡ breaks (take end (now (text .entry))) ⌝ }
+    ensures { λ r. ⌜ r ≡ endsBefore (now (text .entry)) end ⌝ }
 {
     let mut count = 0;
     let mut i = 0;
@@ -44,7 +44,7 @@ fn count_breaks(text: &[u8], end: usize) -> usize
 // How many bytes stand after the last line end among the first `end`: it looks back from there.
 fn count_back(text: &[u8], end: usize) -> usize
     requires { ⌜ end ≤ length (now text) ⌝ }
-    ensures { λ r. ⌜ r ≡ sinceBreak 0 (take end (now (text .entry))) ⌝ }
+    ensures { λ r. ⌜ r ≡ end - lineStart (now (text .entry)) end ⌝ }
 {
     let mut start = end;
     while 0 < start {

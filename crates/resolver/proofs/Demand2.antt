@@ -1,13 +1,13 @@
 -- Demand 2 on the resolver, for what a caller has: a resolve that gives 0 has every cue at the occurrence that it names (`all-out`), one that gives 12 every cue before the named one, whose
 -- occurrence does not exist (`one-missing`; what that occurrence is, is `cue-names` of `outcome`). And folding keeps line ends, so that a text folded beforehand gives the same places,
 -- lines and columns (`folded-before`). Assumes nothing.
-use mathlib.Core.Path.{_≡_, refl, sym, ap, ap₂, _∙_}
-use Prim.Native.Nat.{ℕ, zero, suc, _+_, _*_, _≤_}
+use mathlib.Core.Path.{_≡_, refl, sym, ap, _∙_}
+use Prim.Native.Nat.{ℕ, suc, _+_, _≤_}
 use native.Mathlib.Omega.{arith}
 use mathlib.Core.Logic.{inl, inr}
-use mathlib.Core.Bool.{Bool, true, cond, false≢true}
+use mathlib.Core.Bool.{true, cond, false≢true}
 use mathlib.Core.List.{List, [], _∷_, _++_, map}
-use lib.ListN.{length, take, length-append}
+use lib.ListN.{length, getD, length-append, length-map, List·getD-map}
 use lib.Dec.{eqb}
 use borrow.Author.Tests.{ne-eqb}
 use Rattle.matching.specs.Received.{received}
@@ -17,7 +17,8 @@ use Rattle.fold.proofs.Fold.{folded-twice}
 use Rattle.cue_book.specs.declared.Answer.{Answer}
 use Rattle.cue_book.specs.Format.{Cue}
 use Rattle.cue_book.specs.Reading.{cues, readBook, cuesIn}
-use Rattle.line_column.specs.LineColumn.{breaks, sinceBreak, lineColumn}
+use Rattle.line_column.specs.LineColumn.{endsLine, lineColumn}
+use Rattle.line_column.proofs.Lines.{lines-same}
 use Rattle.outcome.specs.Outcome.{Numbered, numberedFrom, chosen, Judged, judge, entriesOf, Resolution, resolution, Outcome}
 use Rattle.outcome.specs.Told.{cuesOf, placesOf, Found, Faulted}
 use Rattle.outcome.proofs.Judging.{numbered-cues, length-numbered, numbered-at, missing, all-found, one-faulted}
@@ -98,27 +99,12 @@ folded-break b =
     no-capital : b ≡ 10 → capital b ≡ true → ⊥
     no-capital z e = false≢true (sym (ap capital z) ∙ e)
 
-breaks-folded : (l : List ℕ) → breaks (map folded l) ≡ breaks l
-unfolding breaks
-breaks-folded [] = refl
-breaks-folded (b ∷ l) = ap₂ (λ (t : Bool) (n : ℕ). cond t (suc n) n) (folded-break b) (breaks-folded l)
-
-since-folded : (k : ℕ) (l : List ℕ) → sinceBreak k (map folded l) ≡ sinceBreak k l
-unfolding sinceBreak
-since-folded k [] = refl
-since-folded k (b ∷ l) =
-    ap (λ (t : Bool). cond t (sinceBreak 0 (map folded l)) (sinceBreak (suc k) (map folded l))) (folded-break b)
-    ∙ ap₂ (λ (x y : ℕ). cond (eqb b 10) x y) (since-folded 0 l) (since-folded (suc k) l)
-
-take-folded : (n : ℕ) (l : List ℕ) → take n (map folded l) ≡ map folded (take n l)
-take-folded zero l = refl
-take-folded (suc n) [] = refl
-take-folded (suc n) (b ∷ l) = ap (λ (x : List ℕ). folded b ∷ x) (take-folded n l)
+ends-folded : (text : List ℕ) (k : ℕ) → endsLine (map folded text) k ≡ endsLine text k
+unfolding endsLine folded
+ends-folded text k = ap (λ (b : ℕ). eqb b 10) (List·getD-map folded text k 0) ∙ folded-break (getD text k 0)
 
 line-folded : (text : List ℕ) (place : ℕ) → lineColumn (map folded text) place ≡ lineColumn text place
-unfolding lineColumn
-line-folded text place =
-    ap₂ (λ (l k : ℕ). record { line = l + 1; column = k + 1 }) (ap breaks (take-folded place text) ∙ breaks-folded (take place text)) (ap (sinceBreak 0) (take-folded place text) ∙ since-folded 0 (take place text))
+line-folded text = lines-same text (map folded text) (length-map text folded) (ends-folded text)
 
 -- a text folded beforehand gives the same: places, lines and columns, and the same cue missing
 pub folded-before : (text : List ℕ) (xs : List Numbered) → resolution folded (map folded text) xs ≡ resolution folded text xs

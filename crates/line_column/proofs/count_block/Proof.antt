@@ -4,14 +4,14 @@ use mathlib.Core.Logic.{⊎-elim}
 use Prim.Native.Nat.{ℕ, _+_, _-_, _≤_, _<_}
 use native.Mathlib.Omega.{arith}
 use native.Mathlib.Numerals.{add-one}
-use lib.ListN.{length, take}
-use Rattle.line_column.specs.LineColumn.{breaks}
-use Rattle.line_column.proofs.Lines.{breaks-at, breaks-not}
+use lib.ListN.{length}
+use Rattle.line_column.specs.LineColumn.{endsBefore}
+use Rattle.line_column.proofs.Lines.{ends-at, ends-not}
 use Rattle.line_column.proofs.count_block.Statement.{statement}
 use Rattle.line_column.proofs.count_block.Tie as tie
 
 abbrev Inv-loop : tie.InvT-loop
-Inv-loop text start stop count₀ i₀ count i = (breaks (take i text) ≡ breaks (take start text) + count) × ((start ≤ i) × ((i ≤ stop) × (count ≤ i - start)))
+Inv-loop text start stop count₀ i₀ count i = (endsBefore text i ≡ endsBefore text start + count) × ((start ≤ i) × ((i ≤ stop) × (count ≤ i - start)))
 
 abbrev μ-loop : tie.MeasureT-loop
 μ-loop text start stop count₀ i₀ count i = stop - i
@@ -36,18 +36,17 @@ loop-again c =
     let l = c .before .before .before in
     let text = l .before .args .text .now in
     let i = l .loop .i in
-    let next = ap (λ (k : ℕ). breaks (take k text)) (add-one i) in
-    let inside : i < length text = omega (arith, l .before .pre .1 .1) in
+    let next = ap (endsBefore text) (add-one i) in
     ⊎-elim
-    (λ w. (omega (arith, w .1, next, l .loop .inv .0, breaks-at text i inside (w .0 .taken)), (omega arith, (omega arith, omega (arith, w .1)))))
-    (λ w. (omega (arith, w .1, next, l .loop .inv .0, breaks-not text i inside (w .0 .left)), (omega arith, (omega arith, omega (arith, w .1)))))
+    (λ w. (omega (arith, w .1, next, l .loop .inv .0, ends-at text i (w .0 .taken) .0), (omega arith, (omega arith, omega (arith, w .1)))))
+    (λ w. (omega (arith, w .1, next, l .loop .inv .0, ends-not text i (w .0 .left) .0), (omega arith, (omega arith, omega (arith, w .1)))))
     (c .if1 .came)
 
 returns : tie.Need-returns Inv-loop μ-loop
 returns c =
     let l = c .before in
     let e : l .loop .i ≡ l .before .args .stop = omega arith in
-    ap (λ (k : ℕ). breaks (take k (l .before .args .text .now))) (sym e) ∙ l .loop .inv .0
+    ap (endsBefore (l .before .args .text .now)) (sym e) ∙ l .loop .inv .0
 
 pub count-block-spec : {M : Type 1} → statement M
 count-block-spec =

@@ -1,39 +1,39 @@
 -- `line_column::count_breaks` meets its contract. The loop's invariant: the line ends among the first i bytes are counted. Assumes nothing.
 use borrow.Author.Needs.{needs}
-use mathlib.Core.Path.{_≡_, sym}
+use mathlib.Core.Path.{_≡_, refl}
 use Prim.Native.Nat.{_+_, _-_, _≤_}
 use native.Mathlib.Omega.{arith}
-use lib.ListN.{length, take}
-use lib.Seq.{length-take-le}
-use Rattle.line_column.specs.LineColumn.{breaks}
-use Rattle.line_column.proofs.Lines.{breaks-none, breaks-few}
+use lib.ListN.{length}
+use Rattle.line_column.specs.LineColumn.{endsBefore}
+use Rattle.line_column.proofs.Lines.{ends-few}
 use Rattle.line_column.proofs.count_breaks.Statement.{statement}
 use Rattle.line_column.proofs.count_breaks.Tie as tie
 
 abbrev Inv-loop : tie.InvT-loop
-Inv-loop text end count₀ i₀ count i = (count ≡ breaks (take i text)) × (i ≤ end)
+Inv-loop text end count₀ i₀ count i = (count ≡ endsBefore text i) × (i ≤ end)
 
 abbrev μ-loop : tie.MeasureT-loop
 μ-loop text end count₀ i₀ count i = end - i
 
 -- one block more
-counted : (c : tie.After-count-block Inv-loop μ-loop) → let l = c .before .before in l .loop .count + c .count-block .result ≡ breaks (take (l .loop .i + 240) (l .before .before .args .text .now))
+counted : (c : tie.After-count-block Inv-loop μ-loop) → let l = c .before .before in l .loop .count + c .count-block .result ≡ endsBefore (l .before .before .args .text .now) (l .loop .i + 240)
 counted c =
     let l = c .before .before in
     let text = l .before .before .args .text .now in
-    let more : breaks (take (l .loop .i + 240) text) ≡ breaks (take (l .loop .i) text) + c .count-block .result = c .count-block .ensures in
+    let more : endsBefore text (l .loop .i + 240) ≡ endsBefore text (l .loop .i) + c .count-block .result = c .count-block .ensures in
     omega (arith, more, l .loop .inv .0)
 
 -- the last, shorter one
-ended : (c : tie.After-count-block2 Inv-loop μ-loop) → let l = c .before .before in l .loop .count + c .count-block2 .result ≡ breaks (take (l .before .before .args .end) (l .before .before .args .text .now))
+ended : (c : tie.After-count-block2 Inv-loop μ-loop) → let l = c .before .before in l .loop .count + c .count-block2 .result ≡ endsBefore (l .before .before .args .text .now) (l .before .before .args .end)
 ended c =
     let l = c .before .before in
     let text = l .before .before .args .text .now in
-    let more : breaks (take (l .before .before .args .end) text) ≡ breaks (take (l .loop .i) text) + c .count-block2 .result = c .count-block2 .ensures in
+    let more : endsBefore text (l .before .before .args .end) ≡ endsBefore text (l .loop .i) + c .count-block2 .result = c .count-block2 .ensures in
     omega (arith, more, l .loop .inv .0)
 
 loop-holds : tie.Need-loop-holds Inv-loop μ-loop
-loop-holds c = (sym (breaks-none (c .before .args .text .now)), omega arith)
+unfolding endsBefore
+loop-holds c = (refl, omega arith)
 
 sub-loop : tie.Need-sub-loop Inv-loop μ-loop
 sub-loop c = omega arith
@@ -48,7 +48,7 @@ cast-count : tie.Need-cast-count Inv-loop μ-loop
 cast-count c = search needs
 
 add-count : tie.Need-add-count Inv-loop μ-loop
-add-count c = let l = c .before .before in let sum = counted c in omega (arith, sum, breaks-few (take (l .loop .i + 240) (l .before .before .args .text .now)), length-take-le (l .loop .i + 240) (l .before .before .args .text .now) (omega (arith, l .before .before .pre)), l .before .before .fits .end)
+add-count c = let l = c .before .before in omega (arith, counted c, ends-few (l .before .before .args .text .now) (l .loop .i + 240), l .before .before .fits .end)
 
 add-i : tie.Need-add-i Inv-loop μ-loop
 add-i c = omega (arith, c .before .before .before .before .fits .end)
@@ -66,7 +66,7 @@ cast-result : tie.Need-cast-result Inv-loop μ-loop
 cast-result c = search needs
 
 add-result : tie.Need-add-result Inv-loop μ-loop
-add-result c = let s = c .before .before .before .before in let a = s .args in omega (arith, ended c, breaks-few (take (a .end) (a .text .now)), length-take-le (a .end) (a .text .now) (s .pre), s .fits .end)
+add-result c = let s = c .before .before .before .before in let a = s .args in omega (arith, ended c, ends-few (a .text .now) (a .end), s .pre, s .fits .end)
 
 returns : tie.Need-returns Inv-loop μ-loop
 returns c = ended c
