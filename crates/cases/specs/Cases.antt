@@ -1,7 +1,7 @@
 -- The starred cases of document 01, "Refrains to try": one table, and what it means for a row to hold.
 use Prim.Native.Nat.{ℕ, suc, _-_}
 use mathlib.Core.Bool.{Bool, true, false, cond, _&&_}
-use mathlib.Core.List.{List, [], _∷_}
+use mathlib.Core.List.{List, [], _∷_, _++_}
 use lib.ListN.{length}
 use lib.Dec.{eqb}
 use Rattle.matching.specs.Occurrences.{same, occurrences}
@@ -84,27 +84,37 @@ unfolding holds
 allHold [] = true
 allHold (c ∷ cs) = holds c && allHold cs
 
--- the letters, and the pattern, of the cases
-abbrev a : ℕ
-a = 97
+-- the words of the cases, in ASCII: a is 97, b 98, c 99, l 108, N 78, o 111
+abbrev wordA : List ℕ
+wordA = 97 ∷ []
 
-abbrev b : ℕ
-b = 98
+abbrev wordB : List ℕ
+wordB = 98 ∷ []
 
-abbrev c : ℕ
-c = 99
+abbrev wordC : List ℕ
+wordC = 99 ∷ []
 
-abbrev l : ℕ
-l = 108
+abbrev ab : List ℕ
+ab = wordA ++ wordB
 
-abbrev N : ℕ
-N = 78
+abbrev aba : List ℕ
+aba = ab ++ wordA
 
-abbrev o : ℕ
-o = 111
+abbrev aa : List ℕ
+aa = wordA ++ wordA
+
+abbrev aaa : List ℕ
+aaa = aa ++ wordA
 
 abbrev abaaca : List ℕ
-abaaca = a ∷ b ∷ a ∷ a ∷ c ∷ a ∷ []
+abaaca = aba ++ wordA ++ wordC ++ wordA
+
+-- the letters with entries of their own
+abbrev abc : List ℕ
+abc = ab ++ wordC
+
+abbrev la : List ℕ
+la = 108 ∷ wordA
 
 -- the book la, 2, No
 abbrev laNo : List ℕ
@@ -114,26 +124,25 @@ laNo = 0x01 ∷ 0x00 ∷ 0x02 ∷ 0x6C ∷ 0x61 ∷ 0x02 ∷ 0x00 ∷ 0x02 ∷ 0
 unfoldable pub cases : List Case
 cases =
     kmpEntries abaaca (0 ∷ 1 ∷ 0 ∷ 2 ∷ 2 ∷ 0 ∷ 2 ∷ []) (1 ∷ 1 ∷ 3 ∷ 2 ∷ 3 ∷ 6 ∷ 5 ∷ [])
-    ∷ sundayEntries abaaca (a ∷ b ∷ c ∷ []) (1 ∷ 5 ∷ 2 ∷ []) 7
-    ∷ horspoolEntries abaaca (a ∷ b ∷ c ∷ []) (2 ∷ 4 ∷ 1 ∷ []) 6
-    ∷ find fjs (a ∷ b ∷ a ∷ []) (a ∷ a ∷ a ∷ a ∷ a ∷ []) [] 9
-    ∷ find fjs (a ∷ b ∷ a ∷ []) (a ∷ a ∷ a ∷ []) [] 3
-    ∷ find fjs (a ∷ b ∷ a ∷ []) (a ∷ b ∷ a ∷ []) (0 ∷ []) 3
-    ∷ find fjs (a ∷ a ∷ []) (a ∷ a ∷ a ∷ []) (0 ∷ 1 ∷ []) 3
-    ∷ find fjs (a ∷ []) (a ∷ a ∷ a ∷ []) (0 ∷ 1 ∷ 2 ∷ []) 3
-    ∷ find fjs (b ∷ []) (a ∷ a ∷ a ∷ []) [] 2
-    ∷ find naive (a ∷ b ∷ []) (a ∷ []) [] 0
-    ∷ find kmp (a ∷ b ∷ []) (a ∷ []) [] 0
-    ∷ find horspool (a ∷ b ∷ []) (a ∷ []) [] 0
-    ∷ find sunday (a ∷ b ∷ []) (a ∷ []) [] 0
-    ∷ find fjs (a ∷ b ∷ []) (a ∷ []) [] 0
-    ∷ find doubleWindow (a ∷ b ∷ []) (a ∷ []) [] 0
+    ∷ sundayEntries abaaca abc (1 ∷ 5 ∷ 2 ∷ []) 7
+    ∷ horspoolEntries abaaca abc (2 ∷ 4 ∷ 1 ∷ []) 6
+    ∷ find fjs aba (aaa ++ aa) [] 9
+    ∷ find fjs aba aaa [] 3
+    ∷ find fjs aba aba (0 ∷ []) 3
+    ∷ find fjs aa aaa (0 ∷ 1 ∷ []) 3
+    ∷ find fjs wordA aaa (0 ∷ 1 ∷ 2 ∷ []) 3
+    ∷ find fjs wordB aaa [] 2
+    ∷ find naive ab wordA [] 0
+    ∷ find kmp ab wordA [] 0
+    ∷ find horspool ab wordA [] 0
+    ∷ find sunday ab wordA [] 0
+    ∷ find fjs ab wordA [] 0
+    ∷ find doubleWindow ab wordA [] 0
     ∷ fold 0xC9 0xE9
     ∷ fold 0xD7 0xD7
     ∷ fold 0xDF 0xDF
     ∷ fold 0xFF 0xFF
-    ∷ book laNo
-    (cueWith (l ∷ a ∷ []) 2 (N ∷ o ∷ []) ∷ [])
-    ∷ resolve laNo (l ∷ a ∷ 10 ∷ l ∷ a ∷ []) 0 1 (3 ∷ 2 ∷ 1 ∷ [])
-    ∷ resolve laNo (l ∷ a ∷ []) 12 0 []
+    ∷ book laNo (cueWith la 2 (78 ∷ 111 ∷ []) ∷ [])
+    ∷ resolve laNo (la ++ 10 ∷ la) 0 1 (3 ∷ 2 ∷ 1 ∷ [])
+    ∷ resolve laNo la 12 0 []
     ∷ []

@@ -1,4 +1,4 @@
-// The room of the method number: it picks the engine behind it, and refuses a number that has none. It leans on the engines; callers need nothing of them.
+// The method number: it picks the engine behind it, and refuses a number that has none. It depends on the engines; callers need nothing of them.
 use matching::Finding;
 ghost use Rattle.find.specs.Find.{Answered};
 

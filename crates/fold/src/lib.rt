@@ -1,4 +1,4 @@
-// The room of folding (document 01, "Folding (ISO 8859-1)"): small letters for capital ones, held as a constant table of 256. It leans on `matching` for the rule of a lent list.
+// Folding (document 01, "Folding (ISO 8859-1)"): small letters for capital ones, held as a constant table of 256. It depends on `matching` for the rule of a lent list.
 ghost use mathlib.Core.Path.{_≡_};
 ghost use mathlib.Core.List.{map};
 ghost use Rattle.matching.specs.Received.{received};
@@ -271,7 +271,7 @@ pub fn letter(byte: u8) -> u8
     TABLE[byte as usize]
 }
 
-// The letters of a source, folded into a lent target: as many as it has room for; its bytes past those keep their values.
+// The letters of a source, folded into a lent target: as many as it can hold; its bytes past those keep their values.
 pub fn letters(source: &[u8], target: &mut [u8])
     ensures { λ _. ⌜ now (target .exit) ≡ received (now (target .entry)) (map folded (now (source .entry))) ⌝ }
 {

@@ -1,6 +1,6 @@
-// The room of the C interface: each function is exported under the name that include/libretto.h gives it, and carries the exact contract of what it wraps.
+// The C interface: each function is exported under the name that include/libretto.h gives it, and carries the exact contract of what it wraps.
 // An enum does not pass to C: the definitions of specs/Plain.antt say which numbers pass in its place.
-// It leans on `find`, `fold`, `cue_fields`, `cue_book`, `cue_writer` and `resolver`. `rt staticlib libretto` makes the archive that C and Rust link.
+// It depends on `find`, `fold`, `cue_fields`, `cue_book`, `cue_writer` and `resolver`. `rt staticlib libretto` makes the archive that C and Rust link.
 use cue_book::Answer;
 use cue_book::CueAnswer;
 use cue_book::Part;
@@ -63,7 +63,7 @@ pub extern "C" fn libretto_fold(letter: u8) -> u8
     fold::letter(letter)
 }
 
-// The letters of a text, folded into a lent target: as many as it has room for, and their number.
+// The letters of a text, folded into a lent target: as many as it can hold, and their number.
 #[no_mangle]
 pub extern "C" fn libretto_fold_text(text: &[u8], target: &mut [u8]) -> usize
     ensures { λ _. ⌜ now (target .exit) ≡ received (now (target .entry)) (map folded (now (text .entry))) ⌝ }
@@ -71,9 +71,9 @@ pub extern "C" fn libretto_fold_text(text: &[u8], target: &mut [u8]) -> usize
 {
     fold::letters(text, target);
     let letters = text.len();
-    let room = target.len();
-    if room < letters {
-        return room;
+    let most = target.len();
+    if most < letters {
+        return most;
     }
     letters
 }

@@ -1,5 +1,5 @@
-// The room of the line rule (document 01, "Cue book, folding, lines"): which line of a text a place stands in, and at which column.
-// It leans on `matching` for case analysis alone. The rule is one definition, `lineColumn`, and one function, so that another rule can take its place.
+// The line rule (document 01, "Cue book, folding, lines"): which line of a text a place stands in, and at which column.
+// It depends on `matching` for case analysis alone. The rule is one definition, `lineColumn`, and one function, so that another rule can take its place.
 ghost use mathlib.Core.Path.{_≡_};
 ghost use Prim.Native.Nat.{_+_, _-_, _≤_};
 ghost use lib.ListN.{length};

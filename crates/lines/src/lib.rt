@@ -1,5 +1,5 @@
-// The room of the finder's output: numbers and whole lines, laid out one after another in a lent buffer.
-// It leans on `pieces`, by which a piece that does not fit is left out, whole.
+// The layout of the finder's lines: numbers and whole lines, laid out one after another in a lent buffer.
+// It depends on `pieces`, by which a piece that does not fit is left out, whole, and on `matching` for case analysis.
 ghost use Rattle.pieces.specs.Pieces.{Laid, put, putAll};
 ghost use Rattle.lines.specs.Lines.{field, fields, lineOf, refusedLine};
 

@@ -47,7 +47,7 @@ module _ {ℓ} {A : Type ℓ} where
   received-first (y ∷ list) [] = refl
   received-first (y ∷ list) (x ∷ values) = ap (take (suc (length values))) (received-cons y x list values) ∙ ap (λ (l : List A). x ∷ l) (received-first list values)
 
-  -- a list with room for all values has them at its front
+  -- a list long enough for all values has them at its front
   pub received-front : (list values : List A) → length values ≤ length list → received list values ≡ values ++ drop (length values) list
   unfolding received
   received-front list values h = ap (λ (l : List A). l ++ drop (length values) list) (take-all (length list) values h)

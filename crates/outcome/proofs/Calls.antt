@@ -51,9 +51,9 @@ module _ (f : ℕ → ℕ) (c : Call) where
   unfolding withBook withCues
   with-few cs h = rw (lt-ltb (c .entries) (3 * length (chosen cs)) (omega (arith, length-numbered 0 cs)))
 
-  with-room : (cs : List Cue) → 3 * length cs ≤ c .entries → withBook f c (cues cs) ≡ record { works = true; resolution = resolution f (c .text) (chosen cs) }
+  with-enough : (cs : List Cue) → 3 * length cs ≤ c .entries → withBook f c (cues cs) ≡ record { works = true; resolution = resolution f (c .text) (chosen cs) }
   unfolding withBook withCues
-  with-room cs h = rw (le-ltb (c .entries) (3 * length (chosen cs)) (omega (arith, length-numbered 0 cs)))
+  with-enough cs h = rw (le-ltb (c .entries) (3 * length (chosen cs)) (omega (arith, length-numbered 0 cs)))
 
   with-refused : (number index : ℕ) → withBook f c (refused number index) ≡ refusing number index
   unfolding withBook
@@ -72,14 +72,14 @@ module _ (f : ℕ → ℕ) (c : Call) where
       outcome-few h = outcome-fine ∙ ap (withBook f c) read ∙ with-few cs h
 
       pub outcome-works : 3 * length cs ≤ c .entries → outcome f c (readBook book) ≡ record { works = true; resolution = resolution f (c .text) (chosen cs) }
-      outcome-works h = outcome-fine ∙ ap (withBook f c) read ∙ with-room cs h
+      outcome-works h = outcome-fine ∙ ap (withBook f c) read ∙ with-enough cs h
 
   -- ---- a call that gives 0 or 12
 
   -- every test before 12 was passed, the book reads as its cues, and the outcome is theirs
   pub record Worked (book : List ℕ) : Type 0 where
     pub read : readBook book ≡ cues (cuesIn (readBook book))
-    pub room : 3 * length (cuesIn (readBook book)) ≤ c .entries
+    pub three : 3 * length (cuesIn (readBook book)) ≤ c .entries
     pub is : outcome f c (readBook book) ≡ record { works = true; resolution = resolution f (c .text) (chosen (cuesIn (readBook book))) }
 
   abbrev given : List ℕ → ℕ
@@ -102,7 +102,7 @@ module _ (f : ℕ → ℕ) (c : Call) where
           let cs = cuesIn (readBook book) in
           by-test (λ _. Worked book) (ltb (c .entries) (3 * length cs))
           (λ t. idle book j (outcome-few book fine read (ltb-true (c .entries) (3 * length cs) t)) (omega arith) (omega arith))
-          (λ t. let h = ltb-false (c .entries) (3 * length cs) t in record { read = read; room = h; is = outcome-works book fine read h })
+          (λ t. let h = ltb-false (c .entries) (3 * length cs) t in record { read = read; three = h; is = outcome-works book fine read h })
 
       with-memory : callRefusal c ≡ 0 → Worked book
       with-memory fine =

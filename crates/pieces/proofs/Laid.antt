@@ -1,4 +1,4 @@
--- Pieces laid out in a buffer: that `putAll` goes on where it left off, and that a buffer with room for all pieces holds them all, one after another (`laid-all`). Assumes nothing.
+-- Pieces laid out in a buffer: that `putAll` goes on where it left off, and that a buffer long enough for all pieces holds them all, one after another (`laid-all`). Assumes nothing.
 use mathlib.Core.Path.{_≡_, refl, sym, ap, ap₂, _∙_}
 use Prim.Native.Nat.{ℕ, _+_, _≤_, _<_}
 use native.Mathlib.Omega.{arith}
@@ -64,7 +64,7 @@ module _ (buffer₀ : List ℕ) (at : ℕ) where
       let e : putAll buffer r then ≡ putAll buffer₀ at (first ++ then) = ap₂ (λ (b : List ℕ) (n : ℕ). putAll b n then) (l .bytes) (l .next) ∙ sym (all-append buffer₀ at first then) in
       record { bytes = m .bytes ∙ ap (λ (f : Filled). f .bytes) e; next = m .next ∙ ap (λ (f : Filled). f .next) e }
 
--- ---- a buffer with room for all pieces holds them all, one after another, and keeps the rest
+-- ---- a buffer long enough for all pieces holds them all, one after another, and keeps the rest
 
 pub laid-all : (pieces : List (List ℕ)) (buffer : List ℕ) (at : ℕ) → at + length (joined pieces) ≤ length buffer
     → putAll buffer at pieces ≡ record { bytes = take at buffer ++ joined pieces ++ drop (at + length (joined pieces)) buffer; next = at + length (joined pieces) }
@@ -99,7 +99,7 @@ laid-all (piece ∷ pieces) buffer at h =
 -- laid from the buffer's front on
 pub laid-front : (pieces : List (List ℕ)) (buffer : List ℕ) {r : ℕ} {buffer′ : List ℕ} → length (joined pieces) ≤ length buffer → Laid buffer′ r (putAll buffer 0 pieces)
     → (r ≡ length (joined pieces)) × (buffer′ ≡ joined pieces ++ drop (length (joined pieces)) buffer)
-laid-front pieces buffer room l =
+laid-front pieces buffer enough l =
     let none : 0 + length (joined pieces) ≡ length (joined pieces) = omega arith in
     let all = laid-all pieces buffer 0 (omega arith) in
     (l .next ∙ ap (λ (f : Filled). f .next) all ∙ none, l .bytes ∙ ap (λ (f : Filled). f .bytes) all ∙ ap (λ (n : ℕ). joined pieces ++ drop n buffer) none)

@@ -1,4 +1,4 @@
-// The room of laying pieces of bytes out one after another in a lent buffer, as the finder's lines and the cues of a book are. It leans on `matching` for case analysis alone.
+// Laying pieces of bytes out one after another in a lent buffer, as the finder's lines and the cues of a book are. It depends on `matching` for case analysis alone.
 // A piece that does not fit into what is left of the buffer is left out, whole; a buffer that is long enough holds every piece (proofs/Laid.antt).
 ghost use Rattle.pieces.specs.Pieces.{Laid, put};
 

@@ -59,7 +59,7 @@ module _ {book text copy phrase scratch entries : List ℕ} {r : Answer} {copy�
         all = all;
         read = w .read;
         number = ap (λ (a : Answer). a .number) is ∙ f .number ∙ omega (arith, length-numbered 0 all);
-        out = came-out folded text entries (rw same at (f .there)) (w .room) (entered-is w ∙ ap (λ (l : List ℕ). received entries (entriesOf text l)) (f .places ∙ ap (placesOf folded text) same));
+        out = came-out folded text entries (rw same at (f .there)) (w .three) (entered-is w ∙ ap (λ (l : List ℕ). received entries (entriesOf text l)) (f .places ∙ ap (placesOf folded text) same));
       }
 
   -- a resolve that gives 12
@@ -78,7 +78,7 @@ module _ {book text copy phrase scratch entries : List ℕ} {r : Answer} {copy�
         read = w .read ∙ ap cues split;
         number = ap (λ (a : Answer). a .number) is ∙ f .number ∙ numbered-at 0 all (f .before) (f .faulty) (f .later) (f .all) ∙ omega (arith, length-cues (f .before));
         absent = missing folded text (f .faulty .cue) (λ n. omega (arith, f .why));
-        out = came-out folded text entries (f .there) (omega (arith, w .room)) (entered-is w ∙ ap (λ (l : List ℕ). received entries (entriesOf text l)) (f .places));
+        out = came-out folded text entries (f .there) (omega (arith, w .three)) (entered-is w ∙ ap (λ (l : List ℕ). received entries (entriesOf text l)) (f .places));
       }
     where
       length-cues : (xs : List Numbered) → length (cuesOf xs) ≡ length xs

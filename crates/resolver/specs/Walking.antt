@@ -13,7 +13,7 @@ use Rattle.outcome.specs.Outcome.{chosen, Resolution, resolution}
 pub record Ready (book : List ℕ) (count : ℕ) (text copy phrase scratch entries : List ℕ) : Type 0 where
   pub read : readBook book ≡ cues (cuesIn (readBook book))
   pub number : count ≡ length (cuesIn (readBook book))
-  pub room : 3 * length (cuesIn (readBook book)) ≤ length entries
+  pub three : 3 * length (cuesIn (readBook book)) ≤ length entries
   pub small : length text ≤ 32768
   pub copied : copy ≡ map folded text
   pub buffer : 1024 ≤ length phrase

@@ -1,5 +1,5 @@
-// The room of the resolver (document 01, "Cue book, folding, lines"): from the cues of a book to place, line and column.
-// It leans on `cue_book` for the cues, on `fold`, on `fjs` for the occurrence that a cue names, and on `line_column` for the line rule.
+// The resolver (document 01, "Cue book, folding, lines"): from the cues of a book to place, line and column, as `outcome` defines it.
+// It depends on `cue_book` for the cues, on `fold`, on `fjs` for the occurrence that a cue names, and on `line_column` for the line rule.
 use cue_book::Answer;
 use cue_book::CueAnswer;
 use fjs::Place;

@@ -35,7 +35,7 @@ more source target i v h e =
     ap (λ (k : ℕ). set (received target (take i values)) k v) (sym size) ∙ received-more target (take i values) v
     ∙ ap (received target) (ap (λ (x : ℕ). take i values ++ x ∷ []) (e ∙ sym last) ∙ sym (take-suc values i 0 inside) ∙ ap (λ (k : ℕ). take k values) (sym (add-one i)))
 
--- all that the target has room for
+-- all that the target can hold
 all : (source target : List ℕ) (i : ℕ) → i ≡ min (length source) (length target) → received target (take i (map folded source)) ≡ received target (map folded source)
 all source target i e =
     by-test (λ _. received target (take i (map folded source)) ≡ received target (map folded source)) (leb (length target) i)

@@ -14,11 +14,11 @@ use Rattle.lines.proofs.put_number.Statement.{statement}
 use Rattle.lines.proofs.put_number.Tie as tie
 
 -- two digits are left at least where the rest is not below 10
-room : (rest i : ℕ) → 1 ≤ i → i ≤ 10 → 10 ≤ rest → rest < tens i → (2 ≤ i) × (rest / 10 < tens (i - 1))
+place-left : (rest i : ℕ) → 1 ≤ i → i ≤ 10 → 10 ≤ rest → rest < tens i → (2 ≤ i) × (rest / 10 < tens (i - 1))
 unfolding tens
-room rest zero h k l b = absurd (omega arith)
-room rest (suc zero) h k l b = absurd (omega arith)
-room rest (suc (suc i)) h k l b = let e : suc (suc i) - 1 ≡ suc i = omega arith in (omega arith, rw e (omega arith))
+place-left rest zero h k l b = absurd (omega arith)
+place-left rest (suc zero) h k l b = absurd (omega arith)
+place-left rest (suc (suc i)) h k l b = let e : suc (suc i) - 1 ≡ suc i = omega arith in (omega arith, rw e (omega arith))
 
 record Found (value : ℕ) (digits : List ℕ) (i rest : ℕ) : Type 0 where
   all : decimal value ≡ decimal rest ++ drop (suc i) digits
@@ -42,7 +42,7 @@ next : {value : ℕ} {digits : List ℕ} {i rest : ℕ} → Found value digits i
 next {value} {digits} {i} {rest} f h =
     let d : ℕ = 48 + rest % 10 in
     let low : 1 ≤ i = f .low in
-    let r = room rest i (f .low) (f .high) h (f .small) in
+    let r = place-left rest i (f .low) (f .high) h (f .small) in
     let e : suc (i - 1) ≡ i = omega arith in
     record {
       all =
@@ -103,7 +103,7 @@ array-write-digits-2 : tie.Need-array-write-digits-2 Inv-loop μ-loop
 array-write-digits-2 c = omega (arith, c .before .loop .inv .high)
 
 sub-first : tie.Need-sub-first Inv-loop μ-loop
-sub-first c = c .before .loop .inv .low
+sub-first c = omega (arith, c .before .loop .inv .low)
 
 sub-put-bytes : tie.Need-sub-put-bytes Inv-loop μ-loop
 sub-put-bytes c = omega (arith, c .before .before .loop .inv .high)

@@ -50,8 +50,8 @@ module _ (l : tie.After-letters) where
   number : let e = l .before .before .before .before in e .before .before .read-book .result .number ≡ length (cuesIn (readBook (e .before .before .before .before .before .before .before .before .before .before .before .args .book .now)))
   number = let e = l .before .before .before .before in ap (λ (x : Answer). x .number) (e .before .before .read-book .ensures) ∙ read e .1
 
-  room : 3 * length (cuesIn (readBook (l .before .before .before .before .before .before .before .before .before .before .before .before .before .before .before .args .book .now))) ≤ length (l .before .before .before .before .before .before .before .before .before .before .before .before .before .before .before .args .entries .now)
-  room = omega (arith, number, l .before .before .if3 .left)
+  three : 3 * length (cuesIn (readBook (l .before .before .before .before .before .before .before .before .before .before .before .before .before .before .before .args .book .now))) ≤ length (l .before .before .before .before .before .before .before .before .before .before .before .before .before .before .before .args .entries .now)
+  three = omega (arith, number, l .before .before .if3 .left)
 
 memory-refusal-requires : tie.Need-memory-refusal-requires
 memory-refusal-requires c κs = search needs
@@ -96,7 +96,7 @@ slice-aggregate-resolve-cues c =
 resolve-cues-requires : tie.Need-resolve-cues-requires
 resolve-cues-requires c κs =
     let l = c .before .before .before .before .before .before in
-    record { read = read (l .before .before .before .before) .0; number = number l; room = room l; small = lent l .small; copied = held l; buffer = lent l .buffer; tables = lent l .tables }
+    record { read = read (l .before .before .before .before) .0; number = number l; three = three l; small = lent l .small; copied = held l; buffer = lent l .buffer; tables = lent l .tables }
 
 clear-bytes-requires : tie.Need-clear-bytes-requires
 clear-bytes-requires c κs = search needs
@@ -120,7 +120,7 @@ returns-4 : tie.Need-returns-4
 returns-4 c =
     let k = c .before .before .before .before .before .before .before .before .before .before .before .before .before .before in
     let l = k .before .before .before .before .before .before .before in
-    resolved-works _ _ _ _ _ _ (fine (l .before .before .before .before .before .before .before)) (read (l .before .before .before .before) .0) (room l) (copied l)
+    resolved-works _ _ _ _ _ _ (fine (l .before .before .before .before .before .before .before)) (read (l .before .before .before .before) .0) (three l) (copied l)
     (c .before .before .before .before .before .before .clear-bytes .ensures ∙ ap (λ (n : ℕ). replicate n 0) (k .resolve-cues .kept .1 .1 .1 .1 .0))
     (c .before .before .clear-numbers .ensures ∙ ap (λ (n : ℕ). replicate n 0) (k .resolve-cues .kept .1 .1 .1 .1 .1 .0))
     (k .resolve-cues .ensures)
