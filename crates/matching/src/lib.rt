@@ -33,12 +33,12 @@ pub fn refused(m: usize, n: usize, has: usize, needs: usize) -> u32
     0
 }
 
-// Puts a position at a place of the lent list, where the list reaches that far; otherwise the list stays as it is.
-pub fn store(list: &mut [u32], place: usize, position: u32)
-    ensures { λ _. ⌜ now (list .exit) ≡ set (now (list .entry)) place position ⌝ }
+// Puts a number at an index of the lent list, where the list reaches that far; otherwise the list stays as it is.
+pub fn store(list: &mut [u32], index: usize, number: u32)
+    ensures { λ _. ⌜ now (list .exit) ≡ set (now (list .entry)) index number ⌝ }
 {
-    if place < list.len() {
-        list[place] = position;
+    if index < list.len() {
+        list[index] = number;
     }
 }
 

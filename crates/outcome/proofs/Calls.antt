@@ -77,7 +77,7 @@ module _ (f : ℕ → ℕ) (c : Call) where
   -- ---- a call that gives 0 or 12
 
   -- every test before 12 was passed, the book reads as its cues, and the outcome is theirs
-  pub record Worked (book : List ℕ) : Type 0 where
+  pub record Reached (book : List ℕ) : Type 0 where
     pub read : readBook book ≡ cues (cuesIn (readBook book))
     pub three : 3 * length (cuesIn (readBook book)) ≤ c .entries
     pub is : outcome f c (readBook book) ≡ record { works = true; resolution = resolution f (c .text) (chosen (cuesIn (readBook book))) }
@@ -91,21 +91,21 @@ module _ (f : ℕ → ℕ) (c : Call) where
       let is : given book ≡ number = ap (λ (o : Outcome). o .resolution .refusal) e in
       ⊎-elim {C = A} (λ (z : given book ≡ 0). absurd (omega arith)) (λ (z : given book ≡ 12). absurd (omega arith)) j
 
-  pub worked : (book : List ℕ) → (given book ≡ 0) ⊎ (given book ≡ 12) → Worked book
-  worked book j =
-      by-test (λ _. Worked book) (eqb (callRefusal c) 0)
+  pub reached : (book : List ℕ) → (given book ≡ 0) ⊎ (given book ≡ 12) → Reached book
+  reached book j =
+      by-test (λ _. Reached book) (eqb (callRefusal c) 0)
       (λ t. with-memory (eqb-true (callRefusal c) 0 t))
       (λ t. let some = eqb-false (callRefusal c) 0 t in idle book j (outcome-refused book refl some) (omega arith) (omega (arith, call-most c)))
     where
-      with-cues : callRefusal c ≡ 0 → readBook book ≡ cues (cuesIn (readBook book)) → Worked book
+      with-cues : callRefusal c ≡ 0 → readBook book ≡ cues (cuesIn (readBook book)) → Reached book
       with-cues fine read =
           let cs = cuesIn (readBook book) in
-          by-test (λ _. Worked book) (ltb (c .entries) (3 * length cs))
+          by-test (λ _. Reached book) (ltb (c .entries) (3 * length cs))
           (λ t. idle book j (outcome-few book fine read (ltb-true (c .entries) (3 * length cs) t)) (omega arith) (omega arith))
           (λ t. let h = ltb-false (c .entries) (3 * length cs) t in record { read = read; three = h; is = outcome-works book fine read h })
 
-      with-memory : callRefusal c ≡ 0 → Worked book
+      with-memory : callRefusal c ≡ 0 → Reached book
       with-memory fine =
-          by-test (λ _. Worked book) (eqb (refusalOf (readBook book)) 0)
+          by-test (λ _. Reached book) (eqb (refusalOf (readBook book)) 0)
           (λ t. with-cues fine (accepted-book book (eqb-true (refusalOf (readBook book)) 0 t) .0))
           (λ t. let some = eqb-false (refusalOf (readBook book)) 0 t in idle book j (outcome-book book fine some) (omega arith) (omega (arith, book-most book)))

@@ -24,7 +24,7 @@ use Rattle.outcome.specs.Told.{cuesOf, placesOf, Found, Faulted}
 use Rattle.outcome.proofs.Judging.{numbered-cues, length-numbered, numbered-at, missing, all-found, one-faulted}
 use Rattle.outcome.proofs.Placing.{came-out}
 use Rattle.outcome.proofs.Placing as placing
-use Rattle.outcome.proofs.Calls.{Worked, worked}
+use Rattle.outcome.proofs.Calls.{Reached, reached}
 use Rattle.resolver.specs.Resolver.{call, Resolved}
 use Rattle.resolver.specs.Told.{AllOut, OneMissing}
 
@@ -39,7 +39,7 @@ module _ {book text copy phrase scratch entries : List ℕ} {r : Answer} {copy�
   abbrev judged : Judged
   judged = judge folded text [] (chosen all)
 
-  module _ (w : Worked folded (call text copy phrase scratch entries) book) where
+  module _ (w : Reached folded (call text copy phrase scratch entries) book) where
     answer-is : r ≡ record { refusal = judged .refusal; number = judged .number }
     unfolding resolution
     answer-is = made .answer ∙ ap (λ (o : Outcome). record { refusal = o .resolution .refusal; number = o .resolution .number }) (w .is)
@@ -51,7 +51,7 @@ module _ {book text copy phrase scratch entries : List ℕ} {r : Answer} {copy�
   -- a resolve that gives 0
   pub all-out : r .refusal ≡ 0 → AllOut book text entries′ r
   all-out z =
-      let w = worked folded (call text copy phrase scratch entries) book (inl (sym (ap (λ (a : Answer). a .refusal) (made .answer)) ∙ z)) in
+      let w = reached folded (call text copy phrase scratch entries) book (inl (sym (ap (λ (a : Answer). a .refusal) (made .answer)) ∙ z)) in
       let is = answer-is w in
       let f = all-found folded text [] (chosen all) (sym (ap (λ (a : Answer). a .refusal) is) ∙ z) in
       let same : cuesOf (chosen all) ≡ all = numbered-cues 0 all in
@@ -65,7 +65,7 @@ module _ {book text copy phrase scratch entries : List ℕ} {r : Answer} {copy�
   -- a resolve that gives 12
   pub one-missing : r .refusal ≡ 12 → OneMissing book text entries′ r
   one-missing z =
-      let w = worked folded (call text copy phrase scratch entries) book (inr (sym (ap (λ (a : Answer). a .refusal) (made .answer)) ∙ z)) in
+      let w = reached folded (call text copy phrase scratch entries) book (inr (sym (ap (λ (a : Answer). a .refusal) (made .answer)) ∙ z)) in
       let is = answer-is w in
       let twelve : judged .refusal ≡ 12 = sym (ap (λ (a : Answer). a .refusal) is) ∙ z in
       let f = one-faulted folded text [] (chosen all) (λ n. omega arith) in
