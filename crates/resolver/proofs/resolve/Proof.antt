@@ -18,40 +18,59 @@ use Rattle.resolver.proofs.Calls.{resolved-memory, resolved-book, resol
 use Rattle.resolver.proofs.resolve.Statement.{statement}
 use Rattle.resolver.proofs.resolve.Tie as tie
 
--- the call
+-- the call, as it came in
 abbrev called : tie.Start → Call
 called s = let a = s .args in call (a .text .now) (a .copy .now) (a .phrase .now) (a .scratch .now) (a .entries .now)
 
+-- the places after the tests of the memory, of the book and of the entries, and where the call came in
+abbrev start : tie.Else1 → tie.Start
+start e = e .before .before .before .before .before .before .before .before
+
+abbrev tested : tie.Else2 → tie.Else1
+tested e = e .before .before .before
+
+abbrev accepted : tie.After-letters → tie.Else2
+accepted l = l .before .before .before .before
+
 -- the memory passed its tests
-fine : (e : tie.Else1) → callRefusal (called (e .before .before .before .before .before .before .before .before)) ≡ 0
+fine : (e : tie.Else1) → callRefusal (called (start e)) ≡ 0
 fine e = sym (e .before .memory-refusal .ensures) ∙ e .if1 .left
 
--- the book was read
-read : (e : tie.Else2) → let book = e .before .before .before .before .before .before .before .before .before .before .before .args .book .now in (readBook book ≡ cues (cuesIn (readBook book))) × (numberOf (readBook book) ≡ length (cuesIn (readBook book)))
-read e = accepted-book (e .before .before .before .before .before .before .before .before .before .before .before .args .book .now) (sym (ap (λ (r : Answer). r .refusal) (e .before .before .read-book .ensures)) ∙ e .if2 .left)
+-- the book was read, and its cues are as many as reading it gave
+module _ (e : tie.Else2) where
+  abbrev book : List ℕ
+  book = start (tested e) .args .book .now
 
--- the copy's front is the folded text
+  read : (readBook book ≡ cues (cuesIn (readBook book))) × (numberOf (readBook book) ≡ length (cuesIn (readBook book)))
+  read = accepted-book book (sym (ap (λ (r : Answer). r .refusal) (e .before .before .read-book .ensures)) ∙ e .if2 .left)
+
+  number : e .before .before .read-book .result .number ≡ length (cuesIn (readBook book))
+  number = ap (λ (x : Answer). x .number) (e .before .before .read-book .ensures) ∙ read .1
+
+-- the copy's front is the folded text, and the entries are enough
 module _ (l : tie.After-letters) where
-  lent : Enough (called (l .before .before .before .before .before .before .before .before .before .before .before .before .before .before .before))
-  lent = enough (fine (l .before .before .before .before .before .before .before))
+  abbrev entry : tie.Start
+  entry = start (tested (accepted l))
 
-  copied : let a = l .before .before .before .before .before .before .before .before .before .before .before .before .before .before .before .args in l .letters .last .1 .0 ≡ map folded (a .text .now) ++ drop (length (a .text .now)) (a .copy .now)
+  abbrev text : List ℕ
+  text = entry .args .text .now
+
+  abbrev copy : List ℕ
+  copy = entry .args .copy .now
+
+  lent : Enough (called entry)
+  lent = enough (fine (tested (accepted l)))
+
+  copied : l .letters .last .1 .0 ≡ map folded text ++ drop (length text) copy
   copied =
-      let a = l .before .before .before .before .before .before .before .before .before .before .before .before .before .before .before .args in
-      let size = length-map (a .text .now) folded in
-      l .letters .ensures ∙ received-front (a .copy .now) (map folded (a .text .now)) (omega (arith, size, lent .whole)) ∙ ap (λ (k : ℕ). map folded (a .text .now) ++ drop k (a .copy .now)) size
+      let size = length-map text folded in
+      l .letters .ensures ∙ received-front copy (map folded text) (omega (arith, size, lent .whole)) ∙ ap (λ (k : ℕ). map folded text ++ drop k copy) size
 
-  held : let a = l .before .before .before .before .before .before .before .before .before .before .before .before .before .before .before .args in take (length (a .text .now)) (l .letters .last .1 .0) ≡ map folded (a .text .now)
-  held =
-      let a = l .before .before .before .before .before .before .before .before .before .before .before .before .before .before .before .args in
-      ap (λ (x : List ℕ). take (length (a .text .now)) x) copied ∙ take-at (map folded (a .text .now)) (drop (length (a .text .now)) (a .copy .now)) (length (a .text .now)) (length-map (a .text .now) folded)
+  held : take (length text) (l .letters .last .1 .0) ≡ map folded text
+  held = ap (λ (x : List ℕ). take (length text) x) copied ∙ take-at (map folded text) (drop (length text) copy) (length text) (length-map text folded)
 
-  -- and the book's cues are as many as reading it gave
-  number : let e = l .before .before .before .before in e .before .before .read-book .result .number ≡ length (cuesIn (readBook (e .before .before .before .before .before .before .before .before .before .before .before .args .book .now)))
-  number = let e = l .before .before .before .before in ap (λ (x : Answer). x .number) (e .before .before .read-book .ensures) ∙ read e .1
-
-  three : 3 * length (cuesIn (readBook (l .before .before .before .before .before .before .before .before .before .before .before .before .before .before .before .args .book .now))) ≤ length (l .before .before .before .before .before .before .before .before .before .before .before .before .before .before .before .args .entries .now)
-  three = omega (arith, number, l .before .before .if3 .left)
+  three : 3 * length (cuesIn (readBook (book (accepted l)))) ≤ length (entry .args .entries .now)
+  three = omega (arith, number (accepted l), l .before .before .if3 .left)
 
 memory-refusal-requires : tie.Need-memory-refusal-requires
 memory-refusal-requires c κs = search needs
@@ -72,11 +91,7 @@ mul-if3 : tie.Need-mul-if3
 mul-if3 c = search needs
 
 returns-3 : tie.Need-returns-3
-returns-3 c =
-    let e = c .before .before in
-    let r = read e in
-    let number : e .before .before .read-book .result .number ≡ length (cuesIn (readBook (e .before .before .before .before .before .before .before .before .before .before .before .args .book .now))) = ap (λ (x : Answer). x .number) (e .before .before .read-book .ensures) ∙ r .1 in
-    resolved-few _ _ _ _ _ _ (fine (e .before .before .before)) (r .0) (omega (arith, number, c .if3 .taken))
+returns-3 c = let e = c .before .before in resolved-few _ _ _ _ _ _ (fine (tested e)) (read e .0) (omega (arith, number e, c .if3 .taken))
 
 letters-requires : tie.Need-letters-requires
 letters-requires c κs = search needs
@@ -84,19 +99,17 @@ letters-requires c κs = search needs
 slice-reshare-prefix-resolve-cues : tie.Need-slice-reshare-prefix-resolve-cues
 slice-reshare-prefix-resolve-cues c =
     let l = c .before .before in
-    let same : length (l .letters .last .1 .0) ≡ length (l .before .before .before .before .before .before .before .before .before .before .before .before .before .before .before .args .copy .now) = l .letters .kept .1 .0 in
-    let enough : length (l .before .before .before .before .before .before .before .before .before .before .before .before .before .before .before .args .text .now) ≤ length (l .letters .last .1 .0) = omega (arith, same, lent l .whole) in
+    let same : length (l .letters .last .1 .0) ≡ length (copy l) = l .letters .kept .1 .0 in
+    let enough : length (text l) ≤ length (l .letters .last .1 .0) = omega (arith, same, lent l .whole) in
     enough
 
 slice-aggregate-resolve-cues : tie.Need-slice-aggregate-resolve-cues
-slice-aggregate-resolve-cues c =
-    let l = c .before .before .before in
-    sym (ap length (held l) ∙ length-map (l .before .before .before .before .before .before .before .before .before .before .before .before .before .before .before .args .text .now) folded)
+slice-aggregate-resolve-cues c = let l = c .before .before .before in sym (ap length (held l) ∙ length-map (text l) folded)
 
 resolve-cues-requires : tie.Need-resolve-cues-requires
 resolve-cues-requires c κs =
     let l = c .before .before .before .before .before .before in
-    record { read = read (l .before .before .before .before) .0; number = number l; three = three l; small = lent l .small; copied = held l; buffer = lent l .buffer; tables = lent l .tables }
+    record { read = read (accepted l) .0; number = number (accepted l); three = three l; small = lent l .small; copied = held l; buffer = lent l .buffer; tables = lent l .tables }
 
 clear-bytes-requires : tie.Need-clear-bytes-requires
 clear-bytes-requires c κs = search needs
@@ -120,7 +133,7 @@ returns-4 : tie.Need-returns-4
 returns-4 c =
     let k = c .before .before .before .before .before .before .before .before .before .before .before .before .before .before in
     let l = k .before .before .before .before .before .before .before in
-    resolved-works _ _ _ _ _ _ (fine (l .before .before .before .before .before .before .before)) (read (l .before .before .before .before) .0) (three l) (copied l)
+    resolved-works _ _ _ _ _ _ (fine (tested (accepted l))) (read (accepted l) .0) (three l) (copied l)
     (c .before .before .before .before .before .before .clear-bytes .ensures ∙ ap (λ (n : ℕ). replicate n 0) (k .resolve-cues .kept .1 .1 .1 .1 .0))
     (c .before .before .clear-numbers .ensures ∙ ap (λ (n : ℕ). replicate n 0) (k .resolve-cues .kept .1 .1 .1 .1 .1 .0))
     (k .resolve-cues .ensures)
