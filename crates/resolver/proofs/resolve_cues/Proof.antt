@@ -29,46 +29,62 @@ abbrev μ-loop : tie.MeasureT-loop
 μ-loop book count text copy phrase₀ scratch₀ entries₀ index₀ at₀ place₀ phrase scratch entries index at place =
     count - index
 
+-- the places of this proof: where the call came in, the loop's turn, the cue that was read in it, the occurrence that was looked for, and the entries that were put
+abbrev start : tie.At-loop Inv-loop μ-loop → tie.Start Inv-loop μ-loop
+start l = l .before .before .before .before .before .before .before
+
+abbrev turn : tie.After-known-told Inv-loop μ-loop → tie.At-loop Inv-loop μ-loop
+turn k = k .before .before .before .before .before
+
+abbrev cue-read : tie.After-find-cue Inv-loop μ-loop → tie.After-known-told Inv-loop μ-loop
+cue-read f = f .before .before .before .before
+
+abbrev looked : tie.After-known-told2 Inv-loop μ-loop → tie.After-find-cue Inv-loop μ-loop
+looked t = t .before .before .before .before .before .before .before
+
+abbrev entries-put : tie.After-put-entries Inv-loop μ-loop → tie.At-loop Inv-loop μ-loop
+entries-put p = turn (cue-read (looked (p .before .before)))
+
 -- the next cue of the book, and where it stands
-next : (i : tie.In-loop Inv-loop μ-loop) → let l = i .before in Next (l .before .before .before .before .before .before .before .args .book .now) (l .loop .index) (l .loop .place) (l .loop .inv .0 .rest)
-next i = along-cue (i .before .loop .inv .0) (omega (arith, i .loop-test .taken, i .before .before .before .before .before .before .before .before .pre .number))
+next : (i : tie.In-loop Inv-loop μ-loop) → let l = i .before in Next (start l .args .book .now) (l .loop .index) (l .loop .place) (l .loop .inv .0 .rest)
+next i = along-cue (i .before .loop .inv .0) (omega (arith, i .loop-test .taken, start (i .before) .pre .number))
 
 module _ (k : tie.After-known-told Inv-loop μ-loop) where
-  this : let g = k .before .cue .given .0 in let l = k .before .before .before .before .before in
-      CueAt (l .before .before .before .before .before .before .before .args .book .now) (l .loop .place) (g .0) (g .1 .0) (g .1 .1 .0) (g .1 .1 .1 .0) (g .1 .1 .1 .1 .0)
+  this : let g = k .before .cue .given .0 in let l = turn k in
+      CueAt (start l .args .book .now) (l .loop .place) (g .0) (g .1 .0) (g .1 .1 .0) (g .1 .1 .1 .0) (g .1 .1 .1 .1 .0)
   this = cue-at (k .before .before .before .read-cue .ensures) (k .before .cue .given .1)
 
   -- its phrase's bytes
   letters : List ℕ
-  letters = let g = k .before .cue .given .0 in part (k .before .before .before .before .before .before .before .before .before .before .before .before .args .book .now) (g .0) (g .1 .0)
+  letters = let g = k .before .cue .given .0 in part (start (turn k) .args .book .now) (g .0) (g .1 .0)
 
   size : let g = k .before .cue .given .0 in length letters ≡ g .1 .0 - g .0
   unfolding letters
   size =
       let g = k .before .cue .given .0 in
-      let book = k .before .before .before .before .before .before .before .before .before .before .before .before .args .book .now in
+      let book = start (turn k) .args .book .now in
       let i = phrase-inside this in
       length-take-le (g .1 .0 - g .0) (drop (g .0) book) (omega (arith, i .inside, i .ordered, length-drop (g .0) book))
 
   -- the cue that it is
-  means : let g = k .before .cue .given .0 in cueWith letters (g .1 .1 .0) (part (k .before .before .before .before .before .before .before .before .before .before .before .before .args .book .now) (g .1 .1 .1 .0) (g .1 .1 .1 .1 .0)) ≡ next (k .before .before .before .before) .cue
+  means : let g = k .before .cue .given .0 in cueWith letters (g .1 .1 .0) (part (start (turn k) .args .book .now) (g .1 .1 .1 .0) (g .1 .1 .1 .1 .0)) ≡ next (k .before .before .before .before) .cue
   unfolding letters
   means = this .meant ∙ next (k .before .before .before .before) .begun .cue
 
 -- the entries keep their length
-kept : (l : tie.At-loop Inv-loop μ-loop) → length (l .loop .entries) ≡ length (l .before .before .before .before .before .before .before .args .entries .now)
+kept : (l : tie.At-loop Inv-loop μ-loop) → length (l .loop .entries) ≡ length (start l .args .entries .now)
 kept l =
-    let a = l .before .before .before .before .before .before .before .args in
+    let a = start l .args in
     ap length (l .loop .inv .0 .entered) ∙ length-received (a .entries .now) (entriesOf (a .text .now) (l .loop .inv .0 .found))
 
 -- what was looked for is the occurrence that the cue names
-found : (f : tie.After-find-cue Inv-loop μ-loop) → let k = f .before .before .before .before in let l = k .before .before .before .before .before in let c = next (k .before .before .before .before) .cue in
-    f .find-cue .result ≡ nthOf (cueOccurrences folded (l .before .before .before .before .before .before .before .args .text .now) c) (c .ordinal)
+found : (f : tie.After-find-cue Inv-loop μ-loop) → let k = cue-read f in let l = turn k in let c = next (k .before .before .before .before) .cue in
+    f .find-cue .result ≡ nthOf (cueOccurrences folded (start l .args .text .now) c) (c .ordinal)
 unfolding cueOccurrences letters
 found f =
-    let k = f .before .before .before .before in
-    let l = k .before .before .before .before .before in
-    let s = l .before .before .before .before .before .before .before in
+    let k = cue-read f in
+    let l = turn k in
+    let s = start l in
     let a = s .args in
     let c = next (k .before .before .before .before) .cue in
     f .find-cue .ensures
@@ -112,8 +128,8 @@ find-cue-requires : tie.Need-find-cue-requires Inv-loop μ-loop
 unfolding letters
 find-cue-requires c κs =
     let k = c .before .before .before in
-    let l = k .before .before .before .before .before in
-    let s = l .before .before .before .before .before .before .before in
+    let l = turn k in
+    let s = start l in
     let i = phrase-inside (this k) in
     let some : 1 ≤ length (letters k) = omega (arith, size k, i .some) in
     let short : length (letters k) ≤ 1024 = omega (arith, size k, i .short) in
@@ -125,44 +141,44 @@ enum-known-found : tie.Need-enum-known-found Inv-loop μ-loop
 enum-known-found c = search needs
 
 same-length-4 : tie.Need-same-length-4 Inv-loop μ-loop
-same-length-4 c = let f = c .before .before .before .before .before in f .find-cue .kept .1 .1 .1 .0 ∙ f .before .before .before .before .before .before .before .before .before .loop .inv .1 .0
+same-length-4 c = let f = c .before .before .before .before .before in f .find-cue .kept .1 .1 .1 .0 ∙ turn (cue-read f) .loop .inv .1 .0
 
 same-length-5 : tie.Need-same-length-5 Inv-loop μ-loop
-same-length-5 c = let f = c .before .before .before .before .before in f .find-cue .kept .1 .1 .1 .1 .0 ∙ f .before .before .before .before .before .before .before .before .before .loop .inv .1 .1
+same-length-5 c = let f = c .before .before .before .before .before in f .find-cue .kept .1 .1 .1 .1 .0 ∙ turn (cue-read f) .loop .inv .1 .1
 
 same-length-6 : tie.Need-same-length-6 Inv-loop μ-loop
-same-length-6 c = kept (c .before .before .before .before .before .before .before .before .before .before .before .before .before .before)
+same-length-6 c = kept (turn (cue-read (c .before .before .before .before .before)))
 
 returns-2 : tie.Need-returns-2 Inv-loop μ-loop
 returns-2 c =
     let f = c .before .before .before .before .before in
-    let k = f .before .before .before .before in
-    let l = k .before .before .before .before .before in
+    let k = cue-read f in
+    let l = turn k in
     let n = next (k .before .before .before .before) in
     placed (along-missing (l .loop .inv .0) n (found-not _ _ (found f) (c .match2 .keys2))) (l .loop .inv .0 .entered)
 
 put-entries-requires : tie.Need-put-entries-requires Inv-loop μ-loop
 put-entries-requires c κs =
-    let l = c .before .before .before .before .before .before .before .before .before .before .before .before .before .before .before .before .before in
+    let l = turn (cue-read (looked (c .before))) in
     let d = l .loop .inv .0 in
-    (omega (arith, d .three, d .left .count), l .before .before .before .before .before .before .before .pre .small)
+    (omega (arith, d .three, d .left .count), start l .pre .small)
 
 add-index : tie.Need-add-index Inv-loop μ-loop
-add-index c = omega (arith, c .before .before .before .before .before .before .before .before .before .before .before .before .before .before .before .before .before .before .before .before .loop .inv .0 .left .count)
+add-index c = omega (arith, entries-put (c .before .before) .loop .inv .0 .left .count)
 
 add-at : tie.Need-add-at Inv-loop μ-loop
-add-at c = let d = c .before .before .before .before .before .before .before .before .before .before .before .before .before .before .before .before .before .before .before .before .loop .inv .0 in omega (arith, d .three, d .left .count)
+add-at c = let d = entries-put (c .before .before) .loop .inv .0 in omega (arith, d .three, d .left .count)
 
 loop-less : tie.Need-loop-less Inv-loop μ-loop
-loop-less c = omega (arith, c .before .before .before .before .before .before .before .before .before .before .before .before .before .before .before .before .before .before .before .loop-test .taken)
+loop-less c = omega (arith, cue-read (looked (c .before .before .before .before)) .before .before .before .before .loop-test .taken)
 
 loop-again : tie.Need-loop-again Inv-loop μ-loop
 loop-again c =
     let p = c .before .before in
     let t = p .before .before in
-    let f = t .before .before .before .before .before .before .before in
-    let k = f .before .before .before .before in
-    let l = k .before .before .before .before .before in
+    let f = looked t in
+    let k = cue-read f in
+    let l = turn k in
     let n = next (k .before .before .before .before) in
     let d = l .loop .inv .0 in
     let there = found-there _ _ (found f) (t .before .found .given .1) in
@@ -178,7 +194,7 @@ same-length-9 : tie.Need-same-length-9 Inv-loop μ-loop
 same-length-9 c = kept (c .before)
 
 returns-3 : tie.Need-returns-3 Inv-loop μ-loop
-returns-3 c = let l = c .before in let d = l .loop .inv .0 in placed (along-end d (omega (arith, c .loop-test .left, l .before .before .before .before .before .before .before .pre .number))) (d .entered)
+returns-3 c = let l = c .before in let d = l .loop .inv .0 in placed (along-end d (omega (arith, c .loop-test .left, start l .pre .number))) (d .entered)
 
 pub resolve-cues-spec : {M : Type 1} → statement M
 resolve-cues-spec =
