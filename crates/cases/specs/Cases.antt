@@ -7,9 +7,9 @@ use lib.Dec.{eqb}
 use Rattle.matching.specs.Occurrences.{same, occurrences}
 use Rattle.matching.specs.Machine.{run, runFrom, positionsIn}
 use Rattle.matching.specs.Find.{Engine, compared}
-use Rattle.shifts.specs.Tables.{tabulate}
-use Rattle.shifts.specs.BadCharacter.{lastIn, sundayTable, horspoolTable}
-use Rattle.shifts.specs.Kmp.{kmpEntry, kmpTable}
+use Rattle.tables.specs.Tables.{tabulate}
+use Rattle.letter_tables.specs.BadCharacter.{lastIn, sundayTable, horspoolTable}
+use Rattle.border_tables.specs.Kmp.{kmpEntry, kmpTable}
 use Rattle.naive.specs.Naive.{naive}
 use Rattle.kmp.specs.Kmp.{kmp}
 use Rattle.horspool.specs.Horspool.{horspool}

@@ -11,11 +11,11 @@ use Rattle.matching.specs.Machine.{at, lastToFirst}
 use Rattle.matching.proofs.Tests.{by-test, at-same}
 use Rattle.matching.proofs.Occurrences.{Stands, no-occurrence}
 use Rattle.matching.proofs.Machine.{carries-none, Moves, Right, Sound, right-down}
-use Rattle.shifts.specs.DoubleWindow.{lastOf, endEntry, doubleEntry}
-use Rattle.shifts.specs.Moves.{horspoolMove}
-use Rattle.shifts.proofs.BadCharacter.{lastIn-letter}
-use Rattle.shifts.proofs.DoubleWindow.{endEntry-zero, doubleEntry-zero, endEntry-stands, doubleEntry-stands, end-safe, double-safe, endEntry-le, doubleEntry-le}
-use Rattle.shifts.proofs.Moves.{horspool-moves}
+use Rattle.letter_tables.specs.DoubleWindow.{lastOf, endEntry, doubleEntry}
+use Rattle.letter_tables.specs.Moves.{horspoolMove}
+use Rattle.letter_tables.proofs.BadCharacter.{lastIn-letter}
+use Rattle.letter_tables.proofs.DoubleWindow.{endEntry-zero, doubleEntry-zero, endEntry-stands, doubleEntry-stands, end-safe, double-safe, endEntry-le, doubleEntry-le}
+use Rattle.letter_tables.proofs.Moves.{horspool-moves}
 use Rattle.double_window.specs.DoubleWindow.{under, beyond, jump, window}
 
 -- ---- the jump and the window by their cases

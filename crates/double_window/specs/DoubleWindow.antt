@@ -7,9 +7,9 @@ use lib.Dec.{eqb, ltb}
 use Rattle.matching.specs.Letters.{equalDown}
 use Rattle.matching.specs.Machine.{Steps, at, lastToFirst}
 use Rattle.matching.specs.Find.{Engine}
-use Rattle.shifts.specs.BadCharacter.{horspoolTable}
-use Rattle.shifts.specs.DoubleWindow.{endEntry, doubleEntry, doubleTable}
-use Rattle.shifts.specs.Moves.{horspoolMove}
+use Rattle.letter_tables.specs.BadCharacter.{horspoolTable}
+use Rattle.letter_tables.specs.DoubleWindow.{endEntry, doubleEntry, doubleTable}
+use Rattle.letter_tables.specs.Moves.{horspoolMove}
 
 -- u, the text letter under the end of the window at s
 abbrev pub under : List ℕ → List ℕ → ℕ → ℕ

@@ -1,5 +1,5 @@
-// The room of the double window engine: move by the entry of two text letters, u under the window's end and v one window on; where that is 0, compare letters m - 1
-// down to 1 and move by Horspool's entry. It leans on `matching`, and on `shifts` for the entries.
+// The double window engine: move by the entry of two text letters, u under the window's end and v one window on; where that is 0, compare letters m - 1
+// down to 1 and move by Horspool's entry. It depends on `matching`, and on `letter_tables` for the entries.
 use matching::Finding;
 ghost use Rattle.matching.specs.Find.{Found};
 ghost use Rattle.double_window.specs.DoubleWindow.{doubleWindow};
@@ -18,8 +18,8 @@ pub fn find(pattern: &[u8], text: &[u8], scratch: &mut [u16], list: &mut [u32]) 
             comparisons: 0,
         };
     }
-    shifts::horspool_table(pattern, scratch);
-    shifts::double_window_table(pattern, &mut scratch[256..]);
+    letter_tables::horspool_table(pattern, scratch);
+    letter_tables::double_window_table(pattern, &mut scratch[256..]);
     let end = m - 1;
     let last = pattern[end];
     let mut total = 0;

@@ -16,9 +16,9 @@ use Rattle.matching.specs.Find.{compared, Found}
 use Rattle.matching.proofs.Letters.{reach-first, reach-unequal}
 use Rattle.matching.proofs.Machine.{windows-on, windows-off}
 use Rattle.matching.proofs.Find.{found-answer, found-none}
-use Rattle.shifts.specs.Tables.{largest}
-use Rattle.shifts.specs.Kmp.{border, strong, kmpEntry}
-use Rattle.shifts.proofs.Moves.{kmp-next}
+use Rattle.tables.specs.Tables.{largest}
+use Rattle.border_tables.specs.Kmp.{border, strong, kmpEntry}
+use Rattle.border_tables.proofs.Moves.{kmp-next}
 use Rattle.fjs.specs.Fjs.{window, fjs}
 use Rattle.fjs.proofs.Sound.{window-fresh}
 

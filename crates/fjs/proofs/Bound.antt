@@ -14,10 +14,11 @@ use Rattle.matching.specs.Find.{compared}
 use Rattle.matching.proofs.Tests.{by-test}
 use Rattle.matching.proofs.Letters.{reach-le, looks-le, looks-part, looks-all}
 use Rattle.matching.proofs.Machine.{windows-on, windows-off}
-use Rattle.shifts.specs.Moves.{sundayMove, kmpMove}
-use Rattle.shifts.proofs.BadCharacter.{sundayEntry-pos}
-use Rattle.shifts.proofs.Kmp.{kmpEntry-le}
-use Rattle.shifts.proofs.Moves.{sunday-on, sunday-stop}
+use Rattle.letter_tables.specs.Moves.{sundayMove}
+use Rattle.border_tables.specs.Moves.{kmpMove}
+use Rattle.letter_tables.proofs.BadCharacter.{sundayEntry-pos}
+use Rattle.border_tables.proofs.Kmp.{kmpEntry-le}
+use Rattle.letter_tables.proofs.Moves.{sunday-on, sunday-stop}
 use Rattle.fjs.specs.Fjs.{window, fjs}
 use Rattle.fjs.proofs.Sound.{window-end, window-carried, window-fresh}
 

@@ -15,8 +15,10 @@ use Rattle.matching.proofs.Tests.{by-test, at-same}
 use Rattle.matching.proofs.Occurrences.{no-occurrence}
 use Rattle.matching.proofs.Letters.{pairs-take, reach-le, reach-meets, reach-differs, reach-reports, looks-le}
 use Rattle.matching.proofs.Machine.{Carries, Moves, Right, Sound, right-up}
-use Rattle.shifts.specs.Moves.{sundayMove, kmpMove}
-use Rattle.shifts.proofs.Moves.{sunday-moves, kmp-moves}
+use Rattle.letter_tables.specs.Moves.{sundayMove}
+use Rattle.border_tables.specs.Moves.{kmpMove}
+use Rattle.letter_tables.proofs.Moves.{sunday-moves}
+use Rattle.border_tables.proofs.Moves.{kmp-moves}
 use Rattle.fjs.specs.Fjs.{endEqual, before, ended, fresh, step, window}
 
 -- ---- the window by its cases

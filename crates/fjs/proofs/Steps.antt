@@ -13,7 +13,8 @@ use Rattle.matching.specs.Machine.{at}
 use Rattle.matching.proofs.Tests.{at-same}
 use Rattle.matching.proofs.Letters.{reach-equal, reach-unequal, reach-done, looks-part, looks-all}
 use Rattle.matching.proofs.Progress.{Progress, Over, same-list, over-total, over-compared, over-listed, reported-as, missed-as, reported-more, reported-place, hit-up, miss-up}
-use Rattle.shifts.specs.Moves.{sundayMove, kmpMove}
+use Rattle.letter_tables.specs.Moves.{sundayMove}
+use Rattle.border_tables.specs.Moves.{kmpMove}
 use Rattle.fjs.specs.Fjs.{window, fjs}
 use Rattle.fjs.specs.Search.{Searched}
 use Rattle.fjs.proofs.Sound.{window-end, window-carried, window-fresh}

@@ -8,9 +8,10 @@ use lib.Dec.{eqb}
 use Rattle.matching.specs.Letters.{equalPairs, equalOn, reach, looks}
 use Rattle.matching.specs.Machine.{Window, Steps, firstToLast}
 use Rattle.matching.specs.Find.{Engine}
-use Rattle.shifts.specs.BadCharacter.{sundayTable}
-use Rattle.shifts.specs.Kmp.{kmpTable}
-use Rattle.shifts.specs.Moves.{sundayMove, kmpMove}
+use Rattle.letter_tables.specs.BadCharacter.{sundayTable}
+use Rattle.border_tables.specs.Kmp.{kmpTable}
+use Rattle.letter_tables.specs.Moves.{sundayMove}
+use Rattle.border_tables.specs.Moves.{kmpMove}
 
 -- which rule moves the window; a list of moves calls them 1 and 2
 pub data Rule : Type 0 where

@@ -1,5 +1,5 @@
-// The room of the Franek-Jennings-Smyth engine (source document 001, Algorithm 3): Sunday's move while the last letter differs, KMP's move once letters are equal.
-// It leans on `matching`, and on `shifts` for the entries. Beside `find` it offers `nth`, which stops at the occurrence that is wanted.
+// The Franek-Jennings-Smyth engine (source document 001, Algorithm 3): Sunday's move while the last letter differs, KMP's move once letters are equal.
+// It depends on `matching`, and on `letter_tables` and `border_tables` for the entries. Beside `find` it offers `nth`, which stops at the occurrence that is wanted.
 // Demand 3 is carried by proofs/Bound.antt (at most 3n - 2m comparisons) and proofs/Aba.antt (aba in n letters a costs 3n - 6).
 use matching::Finding;
 ghost use mathlib.Core.Path.{_≡_};
@@ -30,8 +30,8 @@ fn make_tables(pattern: &[u8], scratch: &mut [u16])
     requires { ⌜ (length (now pattern) ≤ 1024) × (256 + (length (now pattern) + 1) ≤ length (now scratch)) ⌝ }
     ensures { λ _. ⌜ now (scratch .exit) ≡ fjs .tables (now (pattern .entry)) ++ drop (256 + (length (now (pattern .entry)) + 1)) (now (scratch .entry)) ⌝ }
 {
-    shifts::sunday_table(pattern, &mut scratch[..256]);
-    shifts::kmp_table(pattern, &mut scratch[256..]);
+    letter_tables::sunday_table(pattern, &mut scratch[..256]);
+    border_tables::kmp_table(pattern, &mut scratch[256..]);
 }
 
 // Finds occurrences up to the limit, or all where it is 0. The window starts at s, and its first q letters are carried.

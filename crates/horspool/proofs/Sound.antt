@@ -4,7 +4,7 @@ use native.Mathlib.Omega.{arith}
 use mathlib.Core.List.{List}
 use lib.ListN.{length}
 use Rattle.matching.proofs.Machine.{Sound, right-down}
-use Rattle.shifts.proofs.Moves.{horspool-moves}
+use Rattle.letter_tables.proofs.Moves.{horspool-moves}
 use Rattle.horspool.specs.Horspool.{window}
 
 pub sound : (P T : List ℕ) → 1 ≤ length P → Sound window P T

@@ -3,8 +3,8 @@ use lib.ListN.{length}
 use Rattle.matching.specs.Letters.{equalDown}
 use Rattle.matching.specs.Machine.{Steps, lastToFirst}
 use Rattle.matching.specs.Find.{Engine}
-use Rattle.shifts.specs.BadCharacter.{horspoolTable}
-use Rattle.shifts.specs.Moves.{horspoolMove}
+use Rattle.letter_tables.specs.BadCharacter.{horspoolTable}
+use Rattle.letter_tables.specs.Moves.{horspoolMove}
 
 -- one window
 unfoldable pub window : Steps

@@ -1,4 +1,4 @@
-// The room of Horspool's engine: last letter to first, then move by the entry of the text letter under the pattern's end. It leans on `matching`, and on `shifts` for
+// Horspool's engine: last letter to first, then move by the entry of the text letter under the pattern's end. It depends on `matching`, and on `letter_tables` for
 // the entries.
 use matching::Finding;
 ghost use Rattle.matching.specs.Find.{Found};
@@ -18,7 +18,7 @@ pub fn find(pattern: &[u8], text: &[u8], scratch: &mut [u16], list: &mut [u32]) 
             comparisons: 0,
         };
     }
-    shifts::horspool_table(pattern, scratch);
+    letter_tables::horspool_table(pattern, scratch);
     let end = m - 1;
     let mut total = 0;
     let mut compared = 0;

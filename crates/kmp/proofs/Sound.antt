@@ -6,7 +6,7 @@ use lib.ListN.{length}
 use Rattle.matching.specs.Letters.{reach}
 use Rattle.matching.proofs.Letters.{reach-le, reach-meets, reach-differs}
 use Rattle.matching.proofs.Machine.{Sound, right-up}
-use Rattle.shifts.proofs.Moves.{kmp-moves}
+use Rattle.border_tables.proofs.Moves.{kmp-moves}
 use Rattle.kmp.specs.Kmp.{window}
 
 pub sound : (P T : List ℕ) → 1 ≤ length P → Sound window P T

@@ -4,8 +4,8 @@ use Prim.Native.Nat.{_+_}
 use Rattle.matching.specs.Letters.{equalOn, reach}
 use Rattle.matching.specs.Machine.{Steps, firstToLast}
 use Rattle.matching.specs.Find.{Engine}
-use Rattle.shifts.specs.Kmp.{kmpTable}
-use Rattle.shifts.specs.Moves.{kmpMove}
+use Rattle.border_tables.specs.Kmp.{kmpTable}
+use Rattle.border_tables.specs.Moves.{kmpMove}
 
 -- one window: j - 1 letters are carried, and the comparing goes on from letter j
 unfoldable pub window : Steps

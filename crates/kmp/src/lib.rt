@@ -1,4 +1,4 @@
-// The room of the KMP engine: left to right, and after a mismatch or an occurrence at j go on from b[j]. It leans on `matching`, and on `shifts` for the entries.
+// The KMP engine: left to right, and after a mismatch or an occurrence at j go on from b[j]. It depends on `matching`, and on `border_tables` for the entries.
 // Where nothing is carried the first letter has a test of its own: b[1] is 0, so a mismatch there moves by 1 with nothing carried.
 use matching::Finding;
 ghost use Rattle.matching.specs.Find.{Found};
@@ -18,7 +18,7 @@ pub fn find(pattern: &[u8], text: &[u8], scratch: &mut [u16], list: &mut [u32]) 
             comparisons: 0,
         };
     }
-    shifts::kmp_table(pattern, scratch);
+    border_tables::kmp_table(pattern, scratch);
     let mut total = 0;
     let mut compared = 0;
     let mut s = 0;

@@ -1,4 +1,4 @@
-// The room of the naive engine: every start in turn, left to right, move 1. It leans on `matching`.
+// The naive engine: every start in turn, left to right, move 1. It depends on `matching`.
 // The first letter has a test of its own before the compare loop, since most windows end there.
 use matching::Finding;
 ghost use Rattle.matching.specs.Find.{Found};

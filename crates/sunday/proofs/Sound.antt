@@ -3,7 +3,7 @@ use Prim.Native.Nat.{ℕ, _≤_}
 use mathlib.Core.List.{List}
 use lib.ListN.{length}
 use Rattle.matching.proofs.Machine.{carries-none, Sound, right-up}
-use Rattle.shifts.proofs.Moves.{sunday-moves}
+use Rattle.letter_tables.proofs.Moves.{sunday-moves}
 use Rattle.sunday.specs.Sunday.{window}
 
 pub sound : (P T : List ℕ) → 1 ≤ length P → Sound window P T

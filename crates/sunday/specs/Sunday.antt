@@ -3,8 +3,8 @@
 use Rattle.matching.specs.Letters.{equalOn}
 use Rattle.matching.specs.Machine.{Steps, firstToLast}
 use Rattle.matching.specs.Find.{Engine}
-use Rattle.shifts.specs.BadCharacter.{sundayTable}
-use Rattle.shifts.specs.Moves.{sundayMove}
+use Rattle.letter_tables.specs.BadCharacter.{sundayTable}
+use Rattle.letter_tables.specs.Moves.{sundayMove}
 
 -- one window
 unfoldable pub window : Steps

@@ -1,5 +1,5 @@
-// The room of Sunday's engine: left to right, then move by the entry of the text letter after the window; if there is none, stop. It leans on `matching`, and on
-// `shifts` for the entries.
+// Sunday's engine: left to right, then move by the entry of the text letter after the window; if there is none, stop. It depends on `matching`, and on
+// `letter_tables` for the entries.
 use matching::Finding;
 ghost use Rattle.matching.specs.Find.{Found};
 ghost use Rattle.sunday.specs.Sunday.{sunday};
@@ -18,7 +18,7 @@ pub fn find(pattern: &[u8], text: &[u8], scratch: &mut [u16], list: &mut [u32]) 
             comparisons: 0,
         };
     }
-    shifts::sunday_table(pattern, scratch);
+    letter_tables::sunday_table(pattern, scratch);
     let mut total = 0;
     let mut compared = 0;
     let mut s = 0;

@@ -31,7 +31,7 @@ fn entries(table: &[u16], from: usize, to: usize) {
 // The KMP table of a pattern: its first `count` entries, one more than were made.
 fn kmp_table(pattern: &[u8], count: usize) {
     let mut table = [9; 16];
-    shifts::kmp_table(pattern, &mut table);
+    border_tables::kmp_table(pattern, &mut table);
     io::write_all(1, b"kmp table ");
     io::write_all(1, pattern);
     entries(&table, 0, count);
@@ -40,7 +40,7 @@ fn kmp_table(pattern: &[u8], count: usize) {
 // A KMP table of five entries: too short for five letters, just enough for four.
 fn kmp_table_in_five(pattern: &[u8]) {
     let mut table = [9; 5];
-    shifts::kmp_table(pattern, &mut table);
+    border_tables::kmp_table(pattern, &mut table);
     io::write_all(1, b"kmp table in five ");
     io::write_all(1, pattern);
     entries(&table, 0, 5);
@@ -49,7 +49,7 @@ fn kmp_table_in_five(pattern: &[u8]) {
 // Sunday and Horspool tables: the entries of some letters. A letter table has 256 entries, and one more here.
 fn sunday_table(pattern: &[u8], from: usize, to: usize) {
     let mut table = [9; 257];
-    shifts::sunday_table(pattern, &mut table);
+    letter_tables::sunday_table(pattern, &mut table);
     io::write_all(1, b"sunday table ");
     io::write_all(1, pattern);
     entries(&table, from, to);
@@ -57,7 +57,7 @@ fn sunday_table(pattern: &[u8], from: usize, to: usize) {
 
 fn horspool_table(pattern: &[u8], from: usize, to: usize) {
     let mut table = [9; 257];
-    shifts::horspool_table(pattern, &mut table);
+    letter_tables::horspool_table(pattern, &mut table);
     io::write_all(1, b"horspool table ");
     io::write_all(1, pattern);
     entries(&table, from, to);
@@ -66,8 +66,8 @@ fn horspool_table(pattern: &[u8], from: usize, to: usize) {
 // Both in a table one entry short.
 fn letter_tables_in_255(pattern: &[u8]) {
     let mut table = [9; 255];
-    shifts::sunday_table(pattern, &mut table);
-    shifts::horspool_table(pattern, &mut table);
+    letter_tables::sunday_table(pattern, &mut table);
+    letter_tables::horspool_table(pattern, &mut table);
     io::write_all(1, b"letter tables in 255 ");
     io::write_all(1, pattern);
     entries(&table, 96, 110);
@@ -76,7 +76,7 @@ fn letter_tables_in_255(pattern: &[u8]) {
 // The double window's table: entries of one row or another. It has 65,536 entries, and one more here.
 fn double_table(pattern: &[u8], from: usize, to: usize) {
     let mut table = [9; 65537];
-    shifts::double_window_table(pattern, &mut table);
+    letter_tables::double_window_table(pattern, &mut table);
     io::write_all(1, b"double table ");
     io::write_all(1, pattern);
     entries(&table, from, to);

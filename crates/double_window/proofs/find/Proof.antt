@@ -1,4 +1,4 @@
--- `double_window::find` meets its contract. The loop's invariant is the run's progress (`matching`), with both tables by their rules (`shifts`). Assumes nothing.
+-- `double_window::find` meets its contract. The loop's invariant is the run's progress (`matching`), with both tables by their rules (`letter_tables`). Assumes nothing.
 use borrow.Author.Needs.{needs}
 use mathlib.Core.Path.{_≡_, refl, sym, ap, subst, _∙_}
 use mathlib.Core.Logic.{⊎-elim}
@@ -13,13 +13,13 @@ use Rattle.matching.proofs.Tests.{at-same}
 use Rattle.matching.proofs.Letters.{down-le, comparedDown-is}
 use Rattle.matching.proofs.Find.{within, found-refused}
 use Rattle.matching.proofs.Progress.{Progress, begins, missed, hit-down, miss-down, total-small, compared-small, same-list, past, keeps}
-use Rattle.shifts.specs.BadCharacter.{horspoolEntry, horspoolTable}
-use Rattle.shifts.specs.DoubleWindow.{doubleEntry, doubleTable}
-use Rattle.shifts.specs.Moves.{horspoolMove}
-use Rattle.shifts.proofs.Tables.{Entries, EntriesFrom, Reads, length-made, first-entries, second-entries, made-part}
-use Rattle.shifts.proofs.BadCharacter.{horspool-reads}
-use Rattle.shifts.proofs.DoubleWindow.{endEntry-last, endEntry-other, double-reads}
-use Rattle.shifts.proofs.Moves.{horspool-next}
+use Rattle.letter_tables.specs.BadCharacter.{horspoolEntry, horspoolTable}
+use Rattle.letter_tables.specs.DoubleWindow.{doubleEntry, doubleTable}
+use Rattle.letter_tables.specs.Moves.{horspoolMove}
+use Rattle.tables.proofs.Tables.{Entries, EntriesFrom, Reads, length-made, first-entries, second-entries, made-part}
+use Rattle.letter_tables.proofs.BadCharacter.{horspool-reads}
+use Rattle.letter_tables.proofs.DoubleWindow.{endEntry-last, endEntry-other, double-reads}
+use Rattle.letter_tables.proofs.Moves.{horspool-next}
 use Rattle.double_window.specs.DoubleWindow.{jump, doubleWindow}
 use Rattle.double_window.proofs.Sound.{jump-near, jump-end, jump-fits, window-zero, window-jump, sound}
 use Rattle.double_window.proofs.find.Statement.{statement}

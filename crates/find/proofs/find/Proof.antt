@@ -7,7 +7,6 @@ use mathlib.Core.List.{List}
 use Rattle.matching.specs.declared.Finding.{Finding}
 use Rattle.matching.specs.Find.{Found}
 use Rattle.find.specs.Find.{engineOf, Answered}
-use borrow.Author.Needs.{needs}
 use Rattle.find.proofs.find.Statement.{statement}
 use Rattle.find.proofs.find.Tie as tie
 use Rattle.fjs.proofs.find.Reads as find-reads′

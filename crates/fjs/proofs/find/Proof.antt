@@ -11,7 +11,6 @@ use Rattle.matching.proofs.Progress.{compared-fits}
 use Rattle.fjs.specs.Fjs.{fjs}
 use Rattle.fjs.proofs.Sound.{sound}
 use Rattle.fjs.proofs.Bound.{bound}
-use borrow.Author.Needs.{needs}
 use Rattle.fjs.proofs.find.Statement.{statement}
 use Rattle.fjs.proofs.find.Tie as tie
 

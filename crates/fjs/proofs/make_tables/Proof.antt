@@ -5,10 +5,9 @@ use Prim.Native.Nat.{_+_}
 use native.Mathlib.Omega.{arith}
 use lib.ListN.{length}
 use lib.Seq.{length-take-le}
-use Rattle.shifts.specs.BadCharacter.{sundayEntry}
-use Rattle.shifts.specs.Kmp.{kmpEntry}
-use Rattle.shifts.proofs.Tables.{made-front, made-part}
-use borrow.Author.Needs.{needs}
+use Rattle.letter_tables.specs.BadCharacter.{sundayEntry}
+use Rattle.border_tables.specs.Kmp.{kmpEntry}
+use Rattle.tables.proofs.Tables.{made-front, made-part}
 use Rattle.fjs.proofs.make_tables.Statement.{statement}
 use Rattle.fjs.proofs.make_tables.Tie as tie
 

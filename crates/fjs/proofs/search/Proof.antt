@@ -11,13 +11,14 @@ use Rattle.matching.specs.Machine.{at}
 use Rattle.matching.proofs.Letters.{reach-equal}
 use Rattle.matching.proofs.Find.{none-refused}
 use Rattle.matching.proofs.Progress.{Progress, begins, total-small, compared-small, same-list, past, stopped}
-use Rattle.shifts.specs.BadCharacter.{sundayEntry}
-use Rattle.shifts.specs.Kmp.{kmpEntry}
-use Rattle.shifts.specs.Moves.{kmpMove}
-use Rattle.shifts.proofs.Tables.{Entries, EntriesFrom, Reads, first-entries, second-entries}
-use Rattle.shifts.proofs.BadCharacter.{sunday-reads}
-use Rattle.shifts.proofs.Kmp.{kmp-reads-from}
-use Rattle.shifts.proofs.Moves.{sunday-next, sunday-stop, kmp-next}
+use Rattle.letter_tables.specs.BadCharacter.{sundayEntry}
+use Rattle.border_tables.specs.Kmp.{kmpEntry}
+use Rattle.border_tables.specs.Moves.{kmpMove}
+use Rattle.tables.proofs.Tables.{Entries, EntriesFrom, Reads, first-entries, second-entries}
+use Rattle.letter_tables.proofs.BadCharacter.{sunday-reads}
+use Rattle.border_tables.proofs.Kmp.{kmp-reads-from}
+use Rattle.letter_tables.proofs.Moves.{sunday-next, sunday-stop}
+use Rattle.border_tables.proofs.Moves.{kmp-next}
 use Rattle.fjs.specs.Fjs.{fjs}
 use Rattle.fjs.specs.Search.{Ready}
 use Rattle.fjs.proofs.Sound.{sound}

@@ -1,4 +1,4 @@
--- `horspool::find` meets its contract. The loop's invariant is the run's progress (`matching`), with the table by its rule (`shifts`). Assumes nothing.
+-- `horspool::find` meets its contract. The loop's invariant is the run's progress (`matching`), with the table by its rule (`letter_tables`). Assumes nothing.
 use borrow.Author.Needs.{needs}
 use mathlib.Core.Path.{_≡_, refl, sym, _∙_}
 use mathlib.Core.Logic.{⊎-elim}
@@ -10,11 +10,11 @@ use Rattle.matching.specs.Machine.{at}
 use Rattle.matching.proofs.Letters.{down-le, comparedDown-is}
 use Rattle.matching.proofs.Find.{within, found-refused}
 use Rattle.matching.proofs.Progress.{Progress, begins, hit-down, miss-down, total-small, compared-small, same-list, past, keeps}
-use Rattle.shifts.specs.BadCharacter.{horspoolEntry}
-use Rattle.shifts.specs.Moves.{horspoolMove}
-use Rattle.shifts.proofs.Tables.{Entries, Reads, made-entries, made-by}
-use Rattle.shifts.proofs.BadCharacter.{horspool-reads}
-use Rattle.shifts.proofs.Moves.{horspool-next}
+use Rattle.letter_tables.specs.BadCharacter.{horspoolEntry}
+use Rattle.letter_tables.specs.Moves.{horspoolMove}
+use Rattle.tables.proofs.Tables.{Entries, Reads, made-entries, made-by}
+use Rattle.letter_tables.proofs.BadCharacter.{horspool-reads}
+use Rattle.letter_tables.proofs.Moves.{horspool-next}
 use Rattle.horspool.specs.Horspool.{window, horspool}
 use Rattle.horspool.proofs.Sound.{sound}
 use Rattle.horspool.proofs.find.Statement.{statement}

@@ -1,4 +1,4 @@
--- `kmp::find` meets its contract. The loop's invariant is the run's progress (`matching`), with the table by its rule (`shifts`); the inner loop reaches as far from
+-- `kmp::find` meets its contract. The loop's invariant is the run's progress (`matching`), with the table by its rule (`border_tables`); the inner loop reaches as far from
 -- letter k + 1 on as from the first letter that is not carried. Assumes nothing.
 use borrow.Author.Needs.{needs}
 use mathlib.Core.Path.{_≡_, refl, sym, ap, _∙_}
@@ -12,11 +12,11 @@ use Rattle.matching.specs.Machine.{at}
 use Rattle.matching.proofs.Letters.{reach-equal, reach-unequal, reach-done, reach-first, reach-nothing}
 use Rattle.matching.proofs.Find.{within, found-refused}
 use Rattle.matching.proofs.Progress.{Progress, begins, hit-up, miss-up, total-small, compared-small, same-list, past, keeps}
-use Rattle.shifts.specs.Kmp.{kmpEntry}
-use Rattle.shifts.specs.Moves.{kmpMove}
-use Rattle.shifts.proofs.Tables.{Entries, Reads, made-entries, made-by}
-use Rattle.shifts.proofs.Kmp.{kmpEntry-le, kmp-reads}
-use Rattle.shifts.proofs.Moves.{kmp-next}
+use Rattle.border_tables.specs.Kmp.{kmpEntry}
+use Rattle.border_tables.specs.Moves.{kmpMove}
+use Rattle.tables.proofs.Tables.{Entries, Reads, made-entries, made-by}
+use Rattle.border_tables.proofs.Kmp.{kmpEntry-le, kmp-reads}
+use Rattle.border_tables.proofs.Moves.{kmp-next}
 use Rattle.kmp.specs.Kmp.{window, kmp}
 use Rattle.kmp.proofs.Sound.{sound}
 use Rattle.kmp.proofs.find.Statement.{statement}

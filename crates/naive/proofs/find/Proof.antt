@@ -6,7 +6,7 @@ use native.Mathlib.Omega.{arith}
 use lib.ListN.{length}
 use Rattle.matching.specs.Letters.{reach}
 use Rattle.matching.specs.Machine.{at}
-use Rattle.matching.proofs.Letters.{reach-equal, reach-unequal, reach-first, reach-nothing, reach-done, reach-le}
+use Rattle.matching.proofs.Letters.{reach-equal, reach-unequal, reach-first, reach-nothing, reach-done}
 use Rattle.matching.proofs.Find.{found-refused}
 use Rattle.matching.proofs.Progress.{Progress, begins, hit-up, miss-up, total-small, compared-small, same-list, past, keeps}
 use Rattle.naive.specs.Naive.{window, naive}

@@ -1,4 +1,4 @@
--- `sunday::find` meets its contract. The loop's invariant is the run's progress (`matching`), with the table by its rule (`shifts`); the inner loop reaches as far from
+-- `sunday::find` meets its contract. The loop's invariant is the run's progress (`matching`), with the table by its rule (`letter_tables`); the inner loop reaches as far from
 -- letter k + 1 on as from the first. The loop is left by its test, or where no letter follows the window. Assumes nothing.
 use borrow.Author.Needs.{needs}
 use mathlib.Core.Path.{_≡_, refl, sym, _∙_}
@@ -11,11 +11,11 @@ use Rattle.matching.specs.Machine.{at}
 use Rattle.matching.proofs.Letters.{reach-equal, reach-unequal, reach-done}
 use Rattle.matching.proofs.Find.{within, found-refused}
 use Rattle.matching.proofs.Progress.{Progress, Over, begins, hit-up, miss-up, total-small, compared-small, same-list, past, stopped, keeps}
-use Rattle.shifts.specs.BadCharacter.{sundayEntry}
-use Rattle.shifts.specs.Moves.{sundayMove}
-use Rattle.shifts.proofs.Tables.{Entries, Reads, made-entries, made-by}
-use Rattle.shifts.proofs.BadCharacter.{sunday-reads}
-use Rattle.shifts.proofs.Moves.{sunday-next, sunday-stop}
+use Rattle.letter_tables.specs.BadCharacter.{sundayEntry}
+use Rattle.letter_tables.specs.Moves.{sundayMove}
+use Rattle.tables.proofs.Tables.{Entries, Reads, made-entries, made-by}
+use Rattle.letter_tables.proofs.BadCharacter.{sunday-reads}
+use Rattle.letter_tables.proofs.Moves.{sunday-next, sunday-stop}
 use Rattle.sunday.specs.Sunday.{window, sunday}
 use Rattle.sunday.proofs.Sound.{sound}
 use Rattle.sunday.proofs.find.Statement.{statement}

@@ -1,0 +1,4 @@
+-- The laws of this crate that others cite.
+pub mod Borders
+pub mod Kmp
+pub mod Moves

@@ -1,0 +1,49 @@
+-- What engines cite of the KMP table: a move by its rule goes on, passes over no occurrence, and carries letters that are equal (`Moves`, of the window machine).
+-- All of it is shown from the rule alone, never from how the table is filled. Assumes nothing.
+use mathlib.Core.Path.{_≡_, sym, ap₂, _∙_}
+use Prim.Native.Nat.{ℕ, suc, _+_, _-_, _≤_, _<_}
+use native.Mathlib.Omega.{arith}
+use mathlib.Core.List.{List}
+use lib.ListN.{length, getD}
+use Rattle.matching.specs.Machine.{at}
+use Rattle.matching.proofs.Tests.{at-same}
+use Rattle.matching.proofs.Occurrences.{Stands}
+use Rattle.matching.proofs.Letters.{Meets}
+use Rattle.matching.proofs.Machine.{Moves}
+use Rattle.border_tables.specs.Kmp.{kmpEntry}
+use Rattle.border_tables.specs.Moves.{kmpMove}
+use Rattle.border_tables.proofs.Borders.{Border}
+use Rattle.border_tables.proofs.Kmp.{kmpEntry-le, kmpEntry-rule}
+
+-- where the first r letters of the window are equal, and the next, if there is one, is not
+
+module _ (P T : List ℕ) (s r : ℕ) (r≤ : r ≤ length P) (meets : Meets P T s r) (differs : r < length P → getD P r 0 ≡ getD T (s + r) 0 → ⊥) where
+  -- an occurrence at k before the next window would make the s + r - k letters from k on a longer border with another letter after it
+  kmp-safe : (k : ℕ) → s < k → k < s + suc r - kmpEntry P r → Stands P T k → ⊥
+  unfolding Border Meets
+  kmp-safe k h l st =
+      let b : ℕ = s + r - k in
+      kmpEntry-rule P r r≤ .longest b (omega arith) (omega (arith, kmpEntry-le P r))
+      (λ i j. st .letters i (omega arith) ∙ at-same T {j = s + (r - b + i)} (omega arith) ∙ sym (meets (r - b + i) (omega arith)))
+      (λ m e. differs m (sym e ∙ st .letters b (omega arith) ∙ at-same T (omega arith)))
+
+  -- what is carried is the border, which stands at the end of the letters that were equal
+  kmp-meets : Meets P T (s + suc r - kmpEntry P r) (kmpEntry P r - 1)
+  unfolding Border Meets
+  kmp-meets i h =
+      let b : ℕ = kmpEntry P r in
+      let le : b ≤ r = kmpEntry-le P r in
+      kmpEntry-rule P r r≤ .border (omega arith) i h ∙ meets (r - (b - 1) + i) (omega arith) ∙ at-same T (omega arith)
+
+  pub kmp-moves : 1 ≤ length P → Moves P T s (kmpMove P s r)
+  unfolding kmpMove
+  kmp-moves some =
+      record {
+        ahead = omega (arith, kmpEntry-le P r);
+        skips = kmp-safe;
+        hands = record { part = omega (arith, kmpEntry-le P r); meets = kmp-meets };
+      }
+
+pub kmp-next : (P : List ℕ) (s r b s′ q′ : ℕ) → b ≡ kmpEntry P r → s′ + b ≡ s + suc r → q′ ≡ b - 1 → kmpMove P s r ≡ at s′ q′
+unfolding kmpMove
+kmp-next P s r b s′ q′ e f g = ap₂ at (omega arith) (omega arith)

@@ -1,0 +1,4 @@
+-- The laws of this crate that others cite.
+pub mod BadCharacter
+pub mod DoubleWindow
+pub mod Moves

@@ -1,0 +1,2 @@
+-- The laws of this crate that others cite.
+pub mod Tables

@@ -1,0 +1,267 @@
+-- Laws of tables of any rule: the largest that passes a test, entries by a rule, a table while it is filled, and what a maker leaves. Assumes nothing.
+use mathlib.Core.Path.{_≡_, refl, sym, ap, _∙_}
+use Prim.Native.Nat.{ℕ, zero, suc, _+_, _-_, _≤_, _<_}
+use native.Mathlib.Omega.{arith}
+use mathlib.Core.List.{List, [], _++_, append-assoc, append-nil}
+use mathlib.Core.Bool.{Bool, true, false, cond, _||_, true≢false}
+use lib.ListN.{length, getD, take, drop, set, take-append-drop, length-append, length-drop, length-set, drop-of-length-le, List·getD-append}
+use lib.Seq.{length-take-le, getD-take, getD-append-add, ext-getD, getD-set-same, getD-set-other, drop-set-lt, drop-drop, drop-at, take-at, take-all}
+use borrow.Rule.Slice.PartMut.{putMid, midOf}
+use lib.Dec.{eqb, ltb}
+use borrow.Author.Tests.{eqb-true, eqb-false, ltb-true, ltb-false, le-ltb, lt-ltb}
+use Rattle.matching.proofs.Tests.{by-test, at-same}
+use Rattle.tables.specs.Tables.{largest, tabulate, made}
+
+-- ---- the largest that passes a test
+
+pub largest-le : (n : ℕ) (test : ℕ → Bool) → largest n test ≤ n
+unfolding largest
+largest-le zero test = omega arith
+largest-le (suc n) test = by-test (λ t. cond t (suc n) (largest n test) ≤ suc n) (test n) (λ _. omega arith) (λ _. omega (arith, largest-le n test))
+
+-- none above it passes
+pub largest-none : (n : ℕ) (test : ℕ → Bool) (k : ℕ) → largest n test ≤ k → k < n → test k ≡ false
+unfolding largest
+largest-none zero test k h l = absurd (omega arith)
+largest-none (suc n) test k h l =
+    by-test (λ t. test n ≡ t → cond t (suc n) (largest n test) ≤ k → test k ≡ false) (test n)
+    (λ _ _ h. absurd (omega arith))
+    (λ _ e h. by-test (λ _. test k ≡ false) (eqb k n) (λ d. rw (eqb-true k n d) e) (λ d. largest-none n test k h (omega (arith, eqb-false k n d))))
+    refl h
+
+-- it passes itself
+pub largest-holds : (n : ℕ) (test : ℕ → Bool) → 1 ≤ largest n test → test (largest n test - 1) ≡ true
+unfolding largest
+largest-holds zero test h = absurd (omega arith)
+largest-holds (suc n) test h =
+    by-test (λ t. test n ≡ t → 1 ≤ cond t (suc n) (largest n test) → test (cond t (suc n) (largest n test) - 1) ≡ true) (test n)
+    (λ _ e _. let z : suc n - 1 ≡ n = omega arith in rw z e) (λ _ e h. largest-holds n test h) refl h
+
+-- there is one largest: what passes with none above it that does
+pub largest-is : (n : ℕ) (test : ℕ → Bool) (b : ℕ) → b ≤ n → (1 ≤ b → test (b - 1) ≡ true) → ((k : ℕ) → b ≤ k → k < n → test k ≡ true → ⊥) → largest n test ≡ b
+largest-is n test b h fit none =
+    let a : ℕ = largest n test in
+    by-test (λ _. a ≡ b) (ltb a b)
+    (λ t. let l : a < b = ltb-true a b t in absurd (true≢false (sym (fit (omega arith)) ∙ largest-none n test (b - 1) (omega arith) (omega arith))))
+    (λ t.
+    let l : b ≤ a = ltb-false a b t in
+    by-test (λ _. a ≡ b) (ltb b a)
+    (λ s. let g : b < a = ltb-true b a s in absurd (none (a - 1) (omega arith) (omega (arith, largest-le n test)) (largest-holds n test (omega arith))))
+    (λ s. omega (arith, ltb-false b a s)))
+
+-- ---- entries by a rule
+
+pub length-tabulate : (n : ℕ) (rule : ℕ → ℕ) → length (tabulate n rule) ≡ n
+unfolding tabulate
+length-tabulate zero rule = refl
+length-tabulate (suc n) rule = ap suc (length-tabulate n (λ i. rule (suc i)))
+
+pub getD-tabulate : (n : ℕ) (rule : ℕ → ℕ) (i : ℕ) → i < n → getD (tabulate n rule) i 0 ≡ rule i
+unfolding tabulate
+getD-tabulate zero rule i h = absurd (omega arith)
+getD-tabulate (suc n) rule zero h = refl
+getD-tabulate (suc n) rule (suc i) h = getD-tabulate n (λ j. rule (suc j)) i (omega arith)
+
+-- an entry of a table that stands at the front
+pub tabulate-at : (n : ℕ) (rule : ℕ → ℕ) (more : List ℕ) (i : ℕ) → i < n → getD (tabulate n rule ++ more) i 0 ≡ rule i
+tabulate-at n rule more i h = List·getD-append (tabulate n rule) more 0 i (omega (arith, length-tabulate n rule)) ∙ getD-tabulate n rule i h
+
+-- a list is a table by its rule where each of its entries is
+pub tabulate-is : (n : ℕ) (rule : ℕ → ℕ) (l : List ℕ) → length l ≡ n → ((i : ℕ) → i < n → getD l i 0 ≡ rule i) → l ≡ tabulate n rule
+tabulate-is n rule l long entry = ext-getD 0 l (tabulate n rule) (long ∙ sym (length-tabulate n rule)) (λ i h. let h′ : i < n = omega arith in entry i h′ ∙ sym (getD-tabulate n rule i h′))
+
+-- ---- a lent table, which was table₀, while it is filled: the first n entries follow a rule, and what comes after them is as it was
+
+pub record Ruled (n : ℕ) (rule : ℕ → ℕ) (table₀ table : List ℕ) : Type 0 where
+  pub entry : (c : ℕ) → c < n → getD table c 0 ≡ rule c
+  pub kept : drop n table ≡ drop n table₀
+  pub room : n ≤ length table
+  pub long : length table ≡ length table₀
+
+pub ruled-is : {n : ℕ} {rule : ℕ → ℕ} {table₀ table : List ℕ} → Ruled n rule table₀ table → table ≡ tabulate n rule ++ drop n table₀
+ruled-is {n} {rule} {table₀} {table} r =
+    sym (take-append-drop n table)
+    ∙ ap (λ (l : List ℕ). l ++ drop n table)
+    (tabulate-is n rule (take n table) (length-take-le n table (r .room)) (λ i h. getD-take n table i 0 h ∙ r .entry i h))
+    ∙ ap (λ (l : List ℕ). tabulate n rule ++ l) (r .kept)
+
+-- no entry is set yet
+pub ruled-none : (rule : ℕ → ℕ) (table : List ℕ) → Ruled 0 rule table table
+ruled-none rule table = record { entry = λ c h. absurd (omega arith); kept = refl; room = omega arith; long = refl }
+
+-- the next entry is set
+pub ruled-next : {n : ℕ} {rule : ℕ → ℕ} {table₀ table : List ℕ} → n < length table₀ → Ruled n rule table₀ table → (v : ℕ) → v ≡ rule n → Ruled (suc n) rule table₀ (set table n v)
+ruled-next {n} {rule} {table₀} {table} h r v e =
+    record {
+      entry = λ c l.
+          by-test (λ _. getD (set table n v) c 0 ≡ rule c) (eqb c n)
+          (λ d. rw (eqb-true c n d) (getD-set-same table n v 0 (omega (arith, r .long)) ∙ e))
+          (λ d. getD-set-other table n c v 0 (eqb-false c n d) ∙ r .entry c (omega (arith, eqb-false c n d)));
+      kept = drop-set-lt (suc n) table n v (omega arith) ∙ after table ∙ ap (drop 1) (r .kept) ∙ sym (after table₀);
+      room = omega (arith, r .long, length-set table n v);
+      long = length-set table n v ∙ r .long;
+    }
+  where
+    after : (l : List ℕ) → drop (suc n) l ≡ drop 1 (drop n l)
+    after l = let e : n + 1 ≡ suc n = omega arith in sym (drop-drop 1 n l ∙ ap (λ (i : ℕ). drop i l) e)
+
+-- the next k entries are set, through a part of the table that was lent (`putMid` puts the part back)
+pub ruled-part : {n : ℕ} {rule : ℕ → ℕ} {table₀ table : List ℕ} → Ruled n rule table₀ table → (k : ℕ) (part : List ℕ) → n + k ≤ length table₀ → length part ≡ k
+    → ((i : ℕ) → i < k → getD part i 0 ≡ rule (n + i)) → Ruled (n + k) rule table₀ (putMid n k table part)
+ruled-part {n} {rule} {table₀} {table} r k part h size entries =
+    let front : length (take n table) ≡ n = length-take-le n table (r .room) in
+    let both : length (take n table ++ part) ≡ n + k = length-append (take n table) part ∙ omega arith in
+    let after : length (drop k (drop n table)) ≡ length table - n - k = length-drop k (drop n table) ∙ omega (arith, length-drop n table) in
+    let long : length (putMid n k table part) ≡ length table = simp (length-append) (omega (arith, r .long)) in
+    record {
+      entry = λ c l.
+          by-test (λ _. getD (putMid n k table part) c 0 ≡ rule c) (ltb c n)
+          (λ e. let l′ : c < n = ltb-true c n e in List·getD-append (take n table) (part ++ drop k (drop n table)) 0 c (omega arith) ∙ getD-take n table c 0 l′ ∙ r .entry c l′)
+          (λ e.
+          let l′ : n ≤ c = ltb-false c n e in
+          at-same (putMid n k table part) {i = c} {j = length (take n table) + (c - n)} (omega arith)
+          ∙ getD-append-add (take n table) (part ++ drop k (drop n table)) (c - n) 0
+          ∙ List·getD-append part (drop k (drop n table)) 0 (c - n) (omega arith) ∙ entries (c - n) (omega arith) ∙ ap rule (omega arith));
+      kept =
+          ap (λ (l : List ℕ). drop (n + k) l) (sym (append-assoc (take n table) part (drop k (drop n table)))) ∙ drop-at (take n table ++ part) (drop k (drop n table)) (n + k) both
+          ∙ ap (λ (l : List ℕ). drop k l) (r .kept) ∙ drop-drop k n table₀;
+      room = omega (arith, r .long);
+      long = long ∙ r .long;
+    }
+
+-- any entry is set: the rule changes there alone
+pub ruled-set : {n : ℕ} {f : ℕ → ℕ} {table₀ table : List ℕ} (g : ℕ → ℕ) (x v : ℕ) → x < n → ((c : ℕ) → g c ≡ cond (eqb x c) v (f c)) → Ruled n f table₀ table → Ruled n g table₀ (set table x v)
+ruled-set {n} {f} {table₀} {table} g x v h change r =
+    record {
+      entry = λ c l.
+          by-test (λ t. eqb x c ≡ t → getD (set table x v) c 0 ≡ cond t v (f c)) (eqb x c)
+          (λ e _. rw (← eqb-true x c e) (getD-set-same table x v 0 (omega (arith, r .room))))
+          (λ e _. getD-set-other table x c v 0 (λ d. eqb-false x c e (sym d)) ∙ r .entry c l) refl
+          ∙ sym (change c);
+      kept = drop-set-lt n table x v h ∙ r .kept;
+      room = omega (arith, r .room, length-set table x v);
+      long = length-set table x v ∙ r .long;
+    }
+
+-- the rule by another name
+pub ruled-as : {n : ℕ} {f g : ℕ → ℕ} {table₀ table : List ℕ} → ((c : ℕ) → c < n → f c ≡ g c) → Ruled n f table₀ table → Ruled n g table₀ table
+ruled-as e r = record { entry = λ c h. r .entry c h ∙ e c h; kept = r .kept; room = r .room; long = r .long }
+
+-- a second turn begins with the table as the first left it
+pub ruled-anew : {n : ℕ} {f : ℕ → ℕ} {table₀ table : List ℕ} → Ruled n f table₀ table → Ruled n f table table
+ruled-anew r = record { entry = r .entry; kept = refl; room = r .room; long = refl }
+
+-- and both turns together
+pub ruled-since : {n : ℕ} {f g : ℕ → ℕ} {table₀ table₁ table : List ℕ} → Ruled n f table₀ table₁ → Ruled n g table₁ table → Ruled n g table₀ table
+ruled-since r₁ r = record { entry = r .entry; kept = r .kept ∙ r₁ .kept; room = r .room; long = r .long ∙ r₁ .long }
+
+-- ---- what a maker leaves: the table is shorter than the entries, the pattern is too long, or neither
+
+pub made-short : (most : ℕ) (entries table : List ℕ) → length table < length entries → table ≡ made most entries table
+unfolding made
+made-short most entries table h = rw (lt-ltb (length table) (length entries) h)
+
+pub made-long : (most : ℕ) (entries table : List ℕ) → length entries ≤ length table → 65535 < most → table ≡ made most entries table
+unfolding made
+made-long most entries table h k = rw (le-ltb (length table) (length entries) h, lt-ltb 65535 most k)
+
+pub made-is : (most : ℕ) (entries table : List ℕ) → length entries ≤ length table → most ≤ 65535 → made most entries table ≡ entries ++ drop (length entries) table
+unfolding made
+made-is most entries table h k = rw (le-ltb (length table) (length entries) h, le-ltb 65535 most k)
+
+-- the same for n entries by a rule
+module _ (most n : ℕ) (rule : ℕ → ℕ) (table : List ℕ) where
+  pub made-short-by : length table < n → table ≡ made most (tabulate n rule) table
+  made-short-by h = made-short most (tabulate n rule) table (omega (arith, length-tabulate n rule))
+
+  pub made-long-by : n ≤ length table → 65535 < most → table ≡ made most (tabulate n rule) table
+  made-long-by h k = made-long most (tabulate n rule) table (omega (arith, length-tabulate n rule)) k
+
+  pub made-by : n ≤ length table → most ≤ 65535 → made most (tabulate n rule) table ≡ tabulate n rule ++ drop n table
+  made-by h k = made-is most (tabulate n rule) table (omega (arith, length-tabulate n rule)) k ∙ ap (λ i. tabulate n rule ++ drop i table) (length-tabulate n rule)
+
+  pub length-made : length (made most (tabulate n rule) table) ≡ length table
+  unfolding made
+  length-made =
+      by-test (λ t. (t ≡ false → n ≤ length table) → length (cond t table (tabulate n rule ++ drop (length (tabulate n rule)) table)) ≡ length table) (ltb (length table) (length (tabulate n rule)) || ltb 65535 most)
+      (λ _ _. refl)
+      (λ _ h. length-append (tabulate n rule) (drop (length (tabulate n rule)) table) ∙ omega (arith, length-tabulate n rule, length-drop (length (tabulate n rule)) table, h refl))
+      (λ e. omega (arith, length-tabulate n rule, ltb-false (length table) (length (tabulate n rule)) (neither (ltb (length table) (length (tabulate n rule))) (ltb 65535 most) e)))
+    where
+      neither : (a b : Bool) → a || b ≡ false → a ≡ false
+      neither true b e = absurd (true≢false e)
+      neither false b e = refl
+
+-- ---- what an engine knows of a table at its scratch's front: each entry by its rule
+
+pub record Entries (n : ℕ) (rule : ℕ → ℕ) (table : List ℕ) : Type 0 where
+  pub room : n ≤ length table
+  pub entry : (i : ℕ) → i < n → getD table i 0 ≡ rule i
+
+pub made-entries : (most n : ℕ) (rule : ℕ → ℕ) (table : List ℕ) → n ≤ length table → most ≤ 65535 → {table′ : List ℕ} → table′ ≡ made most (tabulate n rule) table → Entries n rule table′
+made-entries most n rule table h k e =
+    record {
+      room = omega (arith, ap length e, length-made most n rule table);
+      entry = λ i l. ap (λ (t : List ℕ). getD t i 0) (e ∙ made-by most n rule table h k) ∙ tabulate-at n rule (drop n table) i l;
+    }
+
+-- an entry as code reads it: by its rule, and within bounds
+pub record Reads (entry rule low high : ℕ) : Type 0 where
+  pub is : entry ≡ rule
+  pub least : low ≤ entry
+  pub most : entry ≤ high
+
+-- ---- two tables in one scratch: the first at the front, the second in the part from there on
+
+-- what an engine knows of the second
+pub record EntriesFrom (a n : ℕ) (rule : ℕ → ℕ) (table : List ℕ) : Type 0 where
+  pub room : a + n ≤ length table
+  pub entry : (i : ℕ) → i < n → getD table (a + i) 0 ≡ rule i
+
+module _ (a b : ℕ) (f g : ℕ → ℕ) (rest : List ℕ) where
+  both-grouped : (tabulate a f ++ tabulate b g) ++ rest ≡ tabulate a f ++ (tabulate b g ++ rest)
+  both-grouped = append-assoc (tabulate a f) (tabulate b g) rest
+
+  pub first-entries : {table : List ℕ} → table ≡ (tabulate a f ++ tabulate b g) ++ rest → Entries a f table
+  first-entries e =
+      let e′ = e ∙ both-grouped in
+      record {
+        room = omega (arith, ap length e′, length-append (tabulate a f) (tabulate b g ++ rest), length-tabulate a f);
+        entry = λ i h. ap (λ (t : List ℕ). getD t i 0) e′ ∙ tabulate-at a f (tabulate b g ++ rest) i h;
+      }
+
+  pub second-entries : {table : List ℕ} → table ≡ (tabulate a f ++ tabulate b g) ++ rest → EntriesFrom a b g table
+  second-entries {table} e =
+      let e′ = e ∙ both-grouped in
+      let n : length (tabulate a f) ≡ a = length-tabulate a f in
+      record {
+        room = omega (arith, ap length e′, length-append (tabulate a f) (tabulate b g ++ rest), length-append (tabulate b g) rest, length-tabulate b g);
+        entry = λ i h.
+            ap (λ (t : List ℕ). getD t (a + i) 0) e′ ∙ ap (λ (k : ℕ). getD (tabulate a f ++ (tabulate b g ++ rest)) (k + i) 0) (sym n)
+            ∙ getD-append-add (tabulate a f) (tabulate b g ++ rest) i 0 ∙ tabulate-at b g rest i h;
+      }
+
+-- the second maker is lent the part from a on of a scratch whose front the first maker has made
+pub made-part : (most₁ most₂ a b : ℕ) (f g : ℕ → ℕ) (table : List ℕ) {table₁ part : List ℕ} → a + b ≤ length table → most₁ ≤ 65535 → most₂ ≤ 65535
+    → table₁ ≡ made most₁ (tabulate a f) table → part ≡ made most₂ (tabulate b g) (midOf a (length table₁ - a) table₁)
+    → putMid a (length table₁ - a) table₁ part ≡ (tabulate a f ++ tabulate b g) ++ drop (a + b) table
+made-part most₁ most₂ a b f g table {table₁} {part} room small₁ small₂ e₁ e₂ =
+    let is : table₁ ≡ tabulate a f ++ drop a table = e₁ ∙ made-by most₁ a f table (omega arith) small₁ in
+    let size : length (tabulate a f) ≡ a = length-tabulate a f in
+    let front : take a table₁ ≡ tabulate a f = ap (take a) is ∙ take-at (tabulate a f) (drop a table) a size in
+    let back : drop a table₁ ≡ drop a table = ap (drop a) is ∙ drop-at (tabulate a f) (drop a table) a size in
+    let whole : midOf a (length table₁ - a) table₁ ≡ drop a table = take-all (length table₁ - a) (drop a table₁) (omega (arith, length-drop a table₁)) ∙ back in
+    let second : part ≡ tabulate b g ++ drop (a + b) table =
+    e₂ ∙ ap (made most₂ (tabulate b g)) whole ∙ made-by most₂ b g (drop a table) (omega (arith, length-drop a table)) small₂ ∙ ap (λ (l : List ℕ). tabulate b g ++ l) (drop-drop b a table) in
+    let none : drop (length table₁ - a) (drop a table₁) ≡ [] = drop-of-length-le (drop a table₁) {i = length table₁ - a} (omega (arith, length-drop a table₁)) in
+    rw (front, none, second) (rw append-nil (sym (append-assoc (tabulate a f) (tabulate b g) (drop (a + b) table))))
+
+-- a maker that is lent just the front leaves what it would leave of the whole
+pub made-front : (most a : ℕ) (f : ℕ → ℕ) (table : List ℕ) {part : List ℕ} → a ≤ length table → most ≤ 65535 → part ≡ made most (tabulate a f) (take a table)
+    → part ++ drop a table ≡ made most (tabulate a f) table
+made-front most a f table {part} room small e =
+    let size : length (take a table) ≡ a = length-take-le a table room in
+    let is : part ≡ tabulate a f =
+    e ∙ made-by most a f (take a table) (omega arith) small
+    ∙ ap (λ (l : List ℕ). tabulate a f ++ l) (drop-of-length-le (take a table) {i = a} (omega arith)) ∙ append-nil (tabulate a f) in
+    ap (λ (l : List ℕ). l ++ drop a table) is ∙ sym (made-by most a f table room small)
