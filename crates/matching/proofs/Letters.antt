@@ -82,7 +82,7 @@ pub reach-differs : (P T : List ℕ) (s q : ℕ) → s + length P ≤ length T �
 unfolding equalOn
 reach-differs P T s q h k e = pairs-differ (drop q P) (drop (s + q) T) (omega (arith, length-drop q P)) (omega (arith, length-drop (s + q) T)) (simp getD-drop (e ∙ at-same T (omega arith)))
 
--- one pair at a time: it is equal, it is not, and there is none, for want of a letter of the pattern or of the text
+-- one pair at a time: it is equal, it is not, and there is none, for want of a letter of the pattern
 pub reach-equal : (P T : List ℕ) (s k : ℕ) → k < length P → s + k < length T → getD P k 0 ≡ getD T (s + k) 0 → reach P T s k ≡ reach P T s (k + 1)
 unfolding equalOn equalPairs
 reach-equal P T s k h l e =
@@ -104,15 +104,6 @@ reach-nothing P T s h l differs = reach-unequal P T s 0 (omega arith) (omega ari
 pub reach-done : (P T : List ℕ) (s k : ℕ) → length P ≤ k → reach P T s k ≡ k
 unfolding equalOn equalPairs
 reach-done P T s k h = rw (drop-of-length-le P h) (omega arith)
-
-pairs-none : (xs : List ℕ) → equalPairs xs [] ≡ 0
-unfolding equalPairs
-pairs-none [] = refl
-pairs-none (x ∷ xs) = refl
-
-pub reach-past : (P T : List ℕ) (s k : ℕ) → length T ≤ s + k → reach P T s k ≡ k
-unfolding equalOn
-reach-past P T s k h = rw (drop-of-length-le T h, pairs-none) (omega arith)
 
 -- all letters are reached exactly where the pattern stands
 pub reach-reports : (P T : List ℕ) (s q : ℕ) → s + length P ≤ length T → q < length P → Meets P T s q → eqb (reach P T s q) (length P) ≡ occursAt P T s

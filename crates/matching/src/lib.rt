@@ -1,10 +1,10 @@
-// The room of the problem itself: what an occurrence is, what a lent list receives, how letters are compared, and what every engine promises.
-// It leans on nothing. Engines lean on it: they cite its definitions (specs/) in their contracts and its laws (proofs/) in their proofs.
+// The problem itself: what an occurrence is, what a lent list receives, how letters are compared, and what every engine promises.
+// It depends on no other crate. Engines depend on it: they cite its definitions (specs/) in their contracts and its laws (proofs/) in their proofs.
 // Document 01 calls a pattern a phrase and a position a place.
 ghost use mathlib.Core.Path.{_≡_};
 ghost use lib.ListN.{set};
 ghost use Rattle.matching.specs.Find.{refusal};
-ghost use Rattle.matching.specs.Letters.{reach, comparedDown};
+ghost use Rattle.matching.specs.Letters.{comparedDown};
 
 // What a find gives back: a refusal number (0 for none), the full total of occurrences, and the letter comparisons made.
 #[repr(C)]
@@ -40,29 +40,6 @@ pub fn store(list: &mut [u32], index: usize, number: u32)
     if index < list.len() {
         list[index] = number;
     }
-}
-
-// Compares first to last: how many letters of the pattern are equal from the window's start on, where the first `known` are known to be.
-// There are no pairs past the end of the pattern or of the text.
-pub fn compare_up(pattern: &[u8], text: &[u8], start: usize, known: usize) -> usize
-    ensures { λ r. ⌜ r ≡ reach (now (pattern .entry)) (now (text .entry)) start known ⌝ }
-{
-    let n = text.len();
-    if n < start {
-        return known;
-    }
-    let mut end = pattern.len();
-    if n - start < end {
-        end = n - start;
-    }
-    let mut k = known;
-    while k < end {
-        if pattern[k] != text[start + k] {
-            return k;
-        }
-        k += 1;
-    }
-    k
 }
 
 // Compares last to first, from letter `count` of the pattern down: how many letters are equal. It compares none where the pattern or the
