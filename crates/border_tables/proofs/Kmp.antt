@@ -10,8 +10,8 @@ use lib.Dec.{eqb, ltb}
 use borrow.Author.Tests.{eqb-true, eqb-false, ltb-true, ltb-false}
 use Rattle.matching.proofs.Tests.{by-test, at-same}
 use Rattle.tables.specs.Tables.{largest}
-use Rattle.border_tables.specs.Kmp.{strong, kmpEntry}
-use Rattle.tables.proofs.Tables.{largest-le, largest-none, largest-holds, largest-is, Entries, EntriesFrom, Reads}
+use Rattle.border_tables.specs.Kmp.{strong, kmpEntry, kmpMade}
+use Rattle.tables.proofs.Tables.{largest-le, largest-none, largest-holds, largest-is, Entries, Filled, filled, Reads}
 use Rattle.border_tables.proofs.Borders.{Border, border-zero, border-trans, border-nested, border-more, border-less, border-letter, strong-border, strong-differs, border-strong}
 
 -- ---- the rule letter by letter, for b = b[q + 1]
@@ -46,12 +46,12 @@ kmpEntry-is P q b l r =
     (λ h. border-strong P q (b - 1) (omega (arith, r .below)) l (r .border h) (r .differs h))
     (λ k h s f. r .longest k h s (strong-border P q k (omega arith) l f) (λ t. strong-differs P q k t f))
 
--- an entry as an engine reads it
-pub kmp-reads : (P : List ℕ) {table : List ℕ} (q : ℕ) → Entries (length P + 1) (kmpEntry P) table → q ≤ length P → Reads (getD table q 0) (kmpEntry P q) 0 q
-kmp-reads P q t h = let e = t .entry q (omega arith) in record { is = e; least = omega arith; most = omega (arith, kmpEntry-le P q) }
+-- the table as its maker leaves it, and an entry as an engine reads it
+pub kmp-filled : (P : List ℕ) {table table′ : List ℕ} → length P + 1 ≤ length table → length P ≤ 1024 → table′ ≡ kmpMade P table → Filled (length P + 1) (kmpEntry P) table table′
+kmp-filled P h l e = filled (length P) (length P + 1) (kmpEntry P) h (omega arith) e
 
-pub kmp-reads-from : (P : List ℕ) {table : List ℕ} (a q : ℕ) → EntriesFrom a (length P + 1) (kmpEntry P) table → q ≤ length P → Reads (getD table (a + q) 0) (kmpEntry P q) 0 q
-kmp-reads-from P a q t h = let e = t .entry q (omega arith) in record { is = e; least = omega arith; most = omega (arith, kmpEntry-le P q) }
+pub kmp-reads : (P : List ℕ) {table : List ℕ} {a p q : ℕ} → Entries a (length P + 1) (kmpEntry P) table → q ≤ length P → p ≡ a + q → Reads (getD table p 0) (kmpEntry P q) 0 q
+kmp-reads P {q = q} t h is = let e = t .entry q (omega arith) is in record { is = e; least = omega arith; most = omega (arith, kmpEntry-le P q) }
 
 -- ---- how the maker finds an entry
 

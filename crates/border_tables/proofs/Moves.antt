@@ -1,15 +1,18 @@
 -- What engines cite of the KMP table: a move by its rule goes on, passes over no occurrence, and carries letters that are equal (`Moves`, of the window machine).
 -- All of it is shown from the rule alone, never from how the table is filled. Assumes nothing.
-use mathlib.Core.Path.{_≡_, sym, ap₂, _∙_}
+use mathlib.Core.Path.{_≡_, sym, ap₂, subst, _∙_}
 use Prim.Native.Nat.{ℕ, suc, _+_, _-_, _≤_, _<_}
 use native.Mathlib.Omega.{arith}
 use mathlib.Core.List.{List}
 use lib.ListN.{length, getD}
 use Rattle.matching.specs.Machine.{at}
+use Rattle.matching.specs.Find.{Engine}
 use Rattle.matching.proofs.Tests.{at-same}
 use Rattle.matching.proofs.Occurrences.{Stands}
 use Rattle.matching.proofs.Letters.{Meets}
 use Rattle.matching.proofs.Machine.{Moves}
+use Rattle.matching.proofs.Progress.{Progress}
+use Rattle.tables.proofs.Tables.{Reads}
 use Rattle.border_tables.specs.Kmp.{kmpEntry}
 use Rattle.border_tables.specs.Moves.{kmpMove}
 use Rattle.border_tables.proofs.Borders.{Border}
@@ -47,3 +50,9 @@ module _ (P T : List ℕ) (s r : ℕ) (r≤ : r ≤ length P) (meets : Meets P T
 pub kmp-next : (P : List ℕ) (s r b s′ q′ : ℕ) → b ≡ kmpEntry P r → s′ + b ≡ s + suc r → q′ ≡ b - 1 → kmpMove P s r ≡ at s′ q′
 unfolding kmpMove
 kmp-next P s r b s′ q′ e f g = ap₂ at (omega arith) (omega arith)
+
+-- an engine that has moved by the rule is where code goes by the entry b that it reads
+pub kmp-goes : {e : Engine} {P T list₀ list : List ℕ} {total compared : ℕ} (s k : ℕ) {b q : ℕ} → Progress e P T list₀ (kmpMove P s k) total compared list → Reads b (kmpEntry P k) 0 k → q ≡ b - 1
+    → Progress e P T list₀ (at (s + (k + 1 - b)) q) total compared list
+kmp-goes {e} {P} {T} {list₀} {list} {total} {compared} s k {b} {q} p r c =
+    subst (λ x. Progress e P T list₀ x total compared list) (kmp-next P s k b (s + (k + 1 - b)) q (r .is) (omega (arith, r .most)) c) p

@@ -3,3 +3,4 @@ pub mod Sound
 pub mod Bound
 pub mod Aba
 pub mod Steps
+pub mod Ready

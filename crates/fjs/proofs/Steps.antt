@@ -11,7 +11,7 @@ use Rattle.matching.specs.Occurrences.{occurrences}
 use Rattle.matching.specs.Letters.{reach}
 use Rattle.matching.specs.Machine.{at}
 use Rattle.matching.proofs.Tests.{at-same}
-use Rattle.matching.proofs.Letters.{reach-equal, reach-unequal, reach-done, looks-part, looks-all}
+use Rattle.matching.proofs.Letters.{reach-equal, reach-done, Upward, up-stops, looks-part, looks-all}
 use Rattle.matching.proofs.Progress.{Progress, Over, same-list, over-total, over-compared, over-listed, reported-as, missed-as, reported-more, reported-place, hit-up, miss-up}
 use Rattle.letter_tables.specs.Moves.{sundayMove}
 use Rattle.border_tables.specs.Moves.{kmpMove}
@@ -36,14 +36,15 @@ module _ {P T list₀ : List ℕ} {s q total compared : ℕ} {list : List ℕ} (
   pub begun-le : {until c : ℕ} → Begun until c → (until ≤ length P) × ((q ≤ until) × (c ≤ compared + 1))
   begun-le g = ⊎-elim (λ f. (omega (arith, f .1 .1 .0), (omega (arith, f .0), omega (arith, f .1 .1 .1)))) (λ f. (omega (arith, f .1 .0), (omega (arith, f .1 .0, p .carried .part), omega (arith, f .1 .1)))) g
 
-  module _ {until c : ℕ} (g : Begun until c) (k : ℕ) (same : reach P T s k ≡ reach P T s q) (q≤ : q ≤ k) where
+  -- and has passed letter k
+  module _ {until c k : ℕ} (g : Begun until c) (u : Upward P T s q until k) where
     some : 1 ≤ length P
     some = p .sound .some
 
     -- letter k + 1 is not equal
     module _ (k< : k < until) (differs : getD P k 0 ≡ getD T (s + k) 0 → ⊥) where
       stops : reach P T s q ≡ k
-      stops = let le = begun-le g in sym same ∙ reach-unequal P T s k (omega arith) (omega arith) differs
+      stops = let le = begun-le g in sym (up-stops u inside (omega arith) differs)
 
       pub miss : {c′ : ℕ} → c′ ≡ c + (k - q) + 1 → Progress fjs P T list₀ (kmpMove P s k) total c′ list
       miss {c′} sum =
@@ -52,16 +53,17 @@ module _ {P T list₀ : List ℕ} {s q total compared : ℕ} {list : List ℕ} (
           let r : reach P T s 0 ≡ k = ap (reach P T s) (sym (f .0)) ∙ stops in
           rw (← r)
           (missed-as (at-none (f .0)) inside (window-fresh P T s some inside (f .1 .0))
-          (omega (arith, f .0, f .1 .1 .0, f .1 .1 .1, looks-part (length P - 1) (min (length P - 1) (reach P T s 0)) (omega (arith, f .1 .1 .0))))
+          (omega (arith, u .from, f .0, f .1 .1 .0, f .1 .1 .1, looks-part (length P - 1) (min (length P - 1) (reach P T s 0)) (omega (arith, f .1 .1 .0))))
           (ne-eqb (reach P T s 0) (length P) (λ e. omega (arith, f .1 .1 .0)))))
-          (λ f. rw (← stops) (miss-up p inside (window-carried P T s q (f .0)) (sym stops) (omega (arith, f .1 .0)) (omega (arith, f .1 .1))))
+          (λ f. rw (← stops) (miss-up p inside (window-carried P T s q (f .0)) (sym stops) (omega (arith, f .1 .0)) (omega (arith, u .from, f .1 .1))))
           g
 
     -- every letter is equal
-    module _ (k≡ : k ≡ until) where
+    module _ (all : until ≤ k) where
       ends : reach P T s q ≡ length P
       ends =
-          sym same
+          let k≡ : k ≡ until = omega (arith, u .upto) in
+          sym (u .same)
           ∙ ⊎-elim
           (λ f.
           let e : k + 1 ≡ length P = omega (arith, f .1 .1 .0) in
@@ -76,9 +78,9 @@ module _ {P T list₀ : List ℕ} {s q total compared : ℕ} {list : List ℕ} (
           let r : reach P T s 0 ≡ length P = ap (reach P T s) (sym (f .0)) ∙ ends in
           rw (← r)
           (reported-as (at-none (f .0)) inside (window-fresh P T s some inside (f .1 .0))
-          (omega (arith, f .0, f .1 .1 .0, f .1 .1 .1, looks-all (length P - 1) (min (length P - 1) (reach P T s 0)) (omega arith)))
+          (omega (arith, u .upto, f .0, f .1 .1 .0, f .1 .1 .1, looks-all (length P - 1) (min (length P - 1) (reach P T s 0)) (omega arith)))
           (eq-eqb (reach P T s 0) (length P) r)))
-          (λ f. rw (← ends) (hit-up p inside (window-carried P T s q (f .0)) (sym ends) refl (omega (arith, f .1 .0, f .1 .1))))
+          (λ f. rw (← ends) (hit-up p inside (window-carried P T s q (f .0)) (sym ends) refl (omega (arith, u .from, u .upto, f .1 .0, f .1 .1))))
           g
 
       stood : window P T s q .stands ≡ true

@@ -11,8 +11,8 @@ use borrow.Author.Tests.{eq-eqb, eqb-true}
 use Rattle.matching.proofs.Tests.{at-same}
 use Rattle.matching.proofs.Occurrences.{Stands}
 use Rattle.tables.specs.Tables.{largest}
-use Rattle.letter_tables.specs.BadCharacter.{lastIn, sundayEntry, horspoolEntry}
-use Rattle.tables.proofs.Tables.{largest-le, largest-none, largest-holds, Entries, Reads}
+use Rattle.letter_tables.specs.BadCharacter.{lastIn, sundayEntry, horspoolEntry, sundayMade, horspoolMade}
+use Rattle.tables.proofs.Tables.{largest-le, largest-none, largest-holds, Entries, Filled, filled, Reads}
 
 pub lastIn-le : (P : List ℕ) (n c : ℕ) → lastIn P n c ≤ n
 unfolding lastIn
@@ -55,10 +55,16 @@ horspoolEntry-pos P c h = omega (arith, lastIn-le P (length P - 1) c)
 pub horspoolEntry-le : (P : List ℕ) (c : ℕ) → horspoolEntry P c ≤ length P
 horspoolEntry-le P c = omega arith
 
--- ---- the entries as engines read them
+-- ---- the tables as their makers leave them, and the entries as engines read them
 
-pub sunday-reads : (P : List ℕ) {table : List ℕ} (c : ℕ) → Entries 256 (sundayEntry P) table → c < 256 → Reads (getD table c 0) (sundayEntry P c) 1 (length P + 1)
-sunday-reads P c t h = let e = t .entry c h in record { is = e; least = omega (arith, sundayEntry-pos P c); most = omega (arith, sundayEntry-le P c) }
+pub sunday-filled : (P : List ℕ) {table table′ : List ℕ} → 256 ≤ length table → length P ≤ 1024 → table′ ≡ sundayMade P table → Filled 256 (sundayEntry P) table table′
+sunday-filled P h l e = filled (length P + 1) 256 (sundayEntry P) h (omega arith) e
 
-pub horspool-reads : (P : List ℕ) {table : List ℕ} (c : ℕ) → 1 ≤ length P → Entries 256 (horspoolEntry P) table → c < 256 → Reads (getD table c 0) (horspoolEntry P c) 1 (length P)
-horspool-reads P c some t h = let e = t .entry c h in record { is = e; least = omega (arith, horspoolEntry-pos P c some); most = omega (arith, horspoolEntry-le P c) }
+pub horspool-filled : (P : List ℕ) {table table′ : List ℕ} → 256 ≤ length table → length P ≤ 1024 → table′ ≡ horspoolMade P table → Filled 256 (horspoolEntry P) table table′
+horspool-filled P h l e = filled (length P) 256 (horspoolEntry P) h (omega arith) e
+
+pub sunday-reads : (P : List ℕ) {table : List ℕ} (c : ℕ) → Entries 0 256 (sundayEntry P) table → c < 256 → Reads (getD table c 0) (sundayEntry P c) 1 (length P + 1)
+sunday-reads P c t h = let e = t .entry c h {p = c} (omega arith) in record { is = e; least = omega (arith, sundayEntry-pos P c); most = omega (arith, sundayEntry-le P c) }
+
+pub horspool-reads : (P : List ℕ) {table : List ℕ} (c : ℕ) → 1 ≤ length P → Entries 0 256 (horspoolEntry P) table → c < 256 → Reads (getD table c 0) (horspoolEntry P c) 1 (length P)
+horspool-reads P c some t h = let e = t .entry c h {p = c} (omega arith) in record { is = e; least = omega (arith, horspoolEntry-pos P c some); most = omega (arith, horspoolEntry-le P c) }

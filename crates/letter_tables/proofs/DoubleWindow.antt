@@ -7,11 +7,11 @@ use mathlib.Core.Bool.{cond}
 use lib.ListN.{length, getD}
 use lib.Dec.{eqb, ltb}
 use borrow.Author.Tests.{eqb-true, ne-eqb, eq-eqb, ltb-true, ltb-false}
-use Rattle.matching.proofs.Tests.{by-test, at-same}
+use Rattle.matching.proofs.Tests.{by-test}
 use Rattle.matching.proofs.Occurrences.{Stands}
 use Rattle.letter_tables.specs.BadCharacter.{lastIn, horspoolEntry}
 use Rattle.letter_tables.specs.DoubleWindow.{lastOf, endEntry, doubleEntry}
-use Rattle.tables.proofs.Tables.{EntriesFrom}
+use Rattle.tables.proofs.Tables.{Entries}
 use Rattle.letter_tables.proofs.BadCharacter.{lastIn-le, lastIn-more, bad-character}
 
 -- ---- the rules in one formula
@@ -115,5 +115,5 @@ module _ (P T : List ℕ) (s : ℕ) (some : 1 ≤ length P) (st : Stands P T s) 
 pub doubleEntry-at : (P : List ℕ) (u v : ℕ) → v < 256 → doubleEntry P ((256 * u + v) / 256) ((256 * u + v) % 256) ≡ doubleEntry P u v
 doubleEntry-at P u v h = ap₂ (doubleEntry P) (omega arith) (omega arith)
 
-pub double-reads : (P : List ℕ) {table : List ℕ} (a u v : ℕ) → EntriesFrom a 65536 (λ i. doubleEntry P (i / 256) (i % 256)) table → u < 256 → v < 256 → getD table (a + 256 * u + v) 0 ≡ doubleEntry P u v
-double-reads P {table} a u v t h l = at-same table (omega arith) ∙ t .entry (256 * u + v) (omega arith) ∙ doubleEntry-at P u v l
+pub double-reads : (P : List ℕ) {table : List ℕ} (a u v : ℕ) → Entries a 65536 (λ i. doubleEntry P (i / 256) (i % 256)) table → u < 256 → v < 256 → getD table (a + 256 * u + v) 0 ≡ doubleEntry P u v
+double-reads P a u v t h l = t .entry (256 * u + v) (omega arith) (omega arith) ∙ doubleEntry-at P u v l

@@ -1,6 +1,6 @@
 -- What engines cite of the tables of letters: a move by a table's rule goes on, passes over no occurrence, and carries nothing (`Moves`, of the window machine).
 -- All of it is shown from the rules alone, never from how a table is filled. Assumes nothing.
-use mathlib.Core.Path.{_≡_, sym, ap, _∙_}
+use mathlib.Core.Path.{_≡_, sym, subst}
 use Prim.Native.Nat.{ℕ, _+_, _-_, _≤_, _<_}
 use native.Mathlib.Omega.{arith}
 use mathlib.Core.List.{List}
@@ -8,8 +8,11 @@ use lib.ListN.{length, getD}
 use lib.Dec.{ltb}
 use borrow.Author.Tests.{lt-ltb, le-ltb, ltb-true, ltb-false}
 use Rattle.matching.specs.Machine.{stop, at}
+use Rattle.matching.specs.Find.{Engine}
 use Rattle.matching.proofs.Tests.{by-test}
 use Rattle.matching.proofs.Machine.{carries-none, Moves}
+use Rattle.matching.proofs.Progress.{Progress, Over, stopped}
+use Rattle.tables.proofs.Tables.{Reads}
 use Rattle.letter_tables.specs.BadCharacter.{sundayEntry, horspoolEntry}
 use Rattle.letter_tables.specs.Moves.{horspoolMove, sundayMove}
 use Rattle.letter_tables.proofs.BadCharacter.{lastIn-le, bad-character, sundayEntry-pos, horspoolEntry-pos}
@@ -26,10 +29,11 @@ horspool-moves P T s h =
       hands = carries-none P T (s + horspoolEntry P (getD T p 0)) h;
     }
 
--- as code makes it: by a number d that is the entry
-pub horspool-next : (P T : List ℕ) (s d : ℕ) → d ≡ horspoolEntry P (getD T (s + (length P - 1)) 0) → horspoolMove P T s ≡ at (s + d) 0
+-- an engine that has moved by the rule is where code goes by the entry d that it reads
+pub horspool-goes : {e : Engine} {P T list₀ list : List ℕ} {total compared : ℕ} (s : ℕ) {d : ℕ} → Progress e P T list₀ (horspoolMove P T s) total compared list
+    → Reads d (horspoolEntry P (getD T (s + (length P - 1)) 0)) 1 (length P) → Progress e P T list₀ (at (s + d) 0) total compared list
 unfolding horspoolMove
-horspool-next P T s d e = ap (λ (x : ℕ). at (s + x) 0) (sym e)
+horspool-goes {e} {P} {T} {list₀} {list} {total} {compared} s p r = subst (λ (n : ℕ). Progress e P T list₀ (at (s + n) 0) total compared list) (sym (r .is)) p
 
 -- ---- Sunday
 
@@ -42,8 +46,15 @@ pub sunday-stop : (P T : List ℕ) (s : ℕ) → length T ≤ s + length P → s
 unfolding sundayMove
 sunday-stop P T s h = rw (le-ltb (s + length P) (length T) h)
 
-pub sunday-next : (P T : List ℕ) (s d : ℕ) → s + length P < length T → d ≡ sundayEntry P (getD T (s + length P) 0) → sundayMove P T s ≡ at (s + d) 0
-sunday-next P T s d h e = sunday-on P T s h ∙ ap (λ (x : ℕ). at (s + x) 0) (sym e)
+pub sunday-goes : {e : Engine} {P T list₀ list : List ℕ} {total compared : ℕ} (s : ℕ) {d : ℕ} → Progress e P T list₀ (sundayMove P T s) total compared list → s + length P < length T
+    → Reads d (sundayEntry P (getD T (s + length P) 0)) 1 (length P + 1) → Progress e P T list₀ (at (s + d) 0) total compared list
+sunday-goes {e} {P} {T} {list₀} {list} {total} {compared} s p h r =
+    subst (λ (n : ℕ). Progress e P T list₀ (at (s + n) 0) total compared list) (sym (r .is)) (rw (sunday-on P T s h) at p)
+
+-- no letter follows the window: the engine has stopped
+pub sunday-over : {e : Engine} {P T list₀ list : List ℕ} {total compared : ℕ} (s : ℕ) → Progress e P T list₀ (sundayMove P T s) total compared list → length T ≤ s + length P
+    → Over e P T list₀ total compared list
+sunday-over {P = P} {T = T} s p h = stopped (rw (sunday-stop P T s h) at p)
 
 pub sunday-moves : (P T : List ℕ) (s : ℕ) → 1 ≤ length P → Moves P T s (sundayMove P T s)
 sunday-moves P T s h =

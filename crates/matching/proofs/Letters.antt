@@ -1,5 +1,5 @@
 -- Laws of comparing letters: first to last (`reach`), last to first (`equalDown`), and the looks that either costs. Assumes nothing.
-use mathlib.Core.Path.{_≡_, refl, sym, _∙_}
+use mathlib.Core.Path.{_≡_, refl, sym, ap, _∙_}
 use Prim.Native.Nat.{ℕ, zero, suc, _+_, _-_, _≤_, _<_, min}
 use native.Mathlib.Omega.{arith}
 use mathlib.Core.Bool.{false, cond}
@@ -105,6 +105,32 @@ pub reach-done : (P T : List ℕ) (s k : ℕ) → length P ≤ k → reach P T s
 unfolding equalOn equalPairs
 reach-done P T s k h = rw (drop-of-length-le P h) (omega arith)
 
+-- a loop that compares first to last, from letter q + 1 of the window at s up to letter `end`, has passed letter k: from the next letter on it reaches as far as from its start
+pub record Upward (P T : List ℕ) (s q end k : ℕ) : Type 0 where
+  pub same : reach P T s k ≡ reach P T s q
+  pub from : q ≤ k
+  pub upto : k ≤ end
+
+-- it begins: with no letter passed; or with the first, where nothing is carried and that letter is equal
+pub up-none : {P T : List ℕ} {s q end k : ℕ} → k ≡ q → q ≤ end → Upward P T s q end k
+up-none {P} {T} {s} is h = record { same = ap (reach P T s) is; from = omega arith; upto = omega arith }
+
+pub up-first : {P T : List ℕ} {s q k : ℕ} → 1 ≤ length P → s < length T → q ≡ 0 → k ≡ 1 → getD P 0 0 ≡ getD T s 0 → Upward P T s q (length P) k
+up-first {P} {T} {s} some inside none one e =
+    record { same = ap (reach P T s) one ∙ sym (reach-first P T s some inside e) ∙ ap (reach P T s) (sym none); from = omega arith; upto = omega arith }
+
+module _ {P T : List ℕ} {s q end k : ℕ} (u : Upward P T s q end k) (inside : s + length P ≤ length T) where
+  -- one letter more is equal
+  pub up-next : k < end → end ≤ length P → getD P k 0 ≡ getD T (s + k) 0 → Upward P T s q end (k + 1)
+  up-next h l e = record { same = sym (reach-equal P T s k (omega arith) (omega arith) e) ∙ u .same; from = omega (arith, u .from); upto = omega arith }
+
+  -- it is left, at an unequal pair or past the pattern's end: as many letters are equal as it has passed
+  pub up-stops : k < length P → (getD P k 0 ≡ getD T (s + k) 0 → ⊥) → k ≡ reach P T s q
+  up-stops h differs = sym (reach-unequal P T s k h (omega arith) differs) ∙ u .same
+
+  pub up-ends : length P ≤ k → k ≡ reach P T s q
+  up-ends h = sym (reach-done P T s k h) ∙ u .same
+
 -- all letters are reached exactly where the pattern stands
 pub reach-reports : (P T : List ℕ) (s q : ℕ) → s + length P ≤ length T → q < length P → Meets P T s q → eqb (reach P T s q) (length P) ≡ occursAt P T s
 unfolding Meets
@@ -191,6 +217,14 @@ comparedDown-long P T s k h = rw (lt-leb k (length P) h)
 pub comparedDown-past : (P T : List ℕ) (s k : ℕ) → k ≤ length P → length T < s + k → comparedDown P T s k ≡ 0
 unfolding comparedDown
 comparedDown-past P T s k h l = rw (le-leb k (length P) h, lt-leb (s + k) (length T) l)
+
+-- what comparing from letter `count` down gave, inside the pattern and the text: k letters are equal
+pub record Downward (P T : List ℕ) (s count k : ℕ) : Type 0 where
+  pub is : k ≡ equalDown P T s count
+  pub upto : k ≤ count
+
+pub down-compared : {P T : List ℕ} {s count k : ℕ} → k ≡ comparedDown P T s count → count ≤ length P → s + count ≤ length T → Downward P T s count k
+down-compared {P} {T} {s} {count} e h l = let is = e ∙ comparedDown-is P T s count h l in record { is = is; upto = omega (arith, is, down-le P T s count) }
 
 -- ---- the looks
 

@@ -17,9 +17,9 @@ use Rattle.matching.specs.Find.{Engine, compared, refusalOf, Found}
 use Rattle.matching.proofs.Tests.{by-test}
 use Rattle.matching.proofs.Occurrences.{occurrences-few}
 use Rattle.matching.proofs.Received.{received-none, received-more, length-received}
-use Rattle.matching.proofs.Letters.{looks-part, looks-all}
+use Rattle.matching.proofs.Letters.{Downward, looks-part, looks-all}
 use Rattle.matching.proofs.Machine.{Carried, carries-none, Sound, run-on, run-off, run-stop, positions-are, run-few}
-use Rattle.matching.proofs.Find.{within, found-accepted}
+use Rattle.matching.proofs.Find.{Within, within, found-accepted}
 
 -- ---- what windows done add up to
 
@@ -57,11 +57,18 @@ pub record Progress (e : Engine) (P T list₀ : List ℕ) (x : State) (total com
   pub looked : compared ≡ comparedIn done
   pub stored : list ≡ received list₀ (positionsIn done)
 
--- before the first window of a find that is not refused
-pub begins : (e : Engine) (P T scratch list : List ℕ) → refusalOf e P T scratch ≡ 0 → (1 ≤ length P → Sound (e .steps) P T) → Progress e P T list (at 0 0) 0 0 list
+-- a find that is not refused, and the limits that it keeps
+pub record Accepted (e : Engine) (P T scratch : List ℕ) : Type 0 where
+  pub none : refusalOf e P T scratch ≡ 0
+  pub limits : Within (length P) (length T) (length scratch) (e .entries (length P))
+
+pub accepted : {e : Engine} {P T scratch : List ℕ} {number : ℕ} → number ≡ refusalOf e P T scratch → number ≡ 0 → Accepted e P T scratch
+accepted {e} {P} {T} {scratch} is zero = let none = sym is ∙ zero in record { none = none; limits = within (length P) (length T) (length scratch) (e .entries (length P)) none }
+
+-- before the first window, where the limits are kept
+pub begins : {e : Engine} {P T list : List ℕ} {has needs : ℕ} → Within (length P) (length T) has needs → (1 ≤ length P → Sound (e .steps) P T) → Progress e P T list (at 0 0) 0 0 list
 unfolding positionsIn comparedIn
-begins e P T scratch list none sound =
-    let limits = within (length P) (length T) (length scratch) (e .entries (length P)) none in
+begins {e} {P} {T} {list} limits sound =
     record {
       sound = sound (limits .some);
       short = limits .short;
@@ -153,12 +160,16 @@ module _ {e : Engine} {P T list₀ : List ℕ} {s q total compared : ℕ} {list 
     miss-up part sum = missed-as is (omega (arith, looks-part (length P - q) (equalOn P T s q) (omega arith))) (ne-eqb (reach P T s q) (length P) (λ f. omega arith))
 
   -- of a window compared last to first from letter `count` down: k letters are equal, and the one before them, if there is one, is not
-  module _ {x : State} {k c : ℕ} (count : ℕ) (is : e .steps P T s q ≡ lastToFirst P T s count x) (reached : k ≡ equalDown P T s count) where
-    pub hit-down : k ≡ count → c ≡ compared + k → Progress e P T list₀ x (total + 1) c (set list total s)
-    hit-down all sum = reported-as is (omega (arith, looks-all count (equalDown P T s count) (omega arith))) (eq-eqb (equalDown P T s count) count (omega arith))
+  module _ {x : State} {count k c : ℕ} (is : e .steps P T s q ≡ lastToFirst P T s count x) (d : Downward P T s count k) where
+    pub hit-down : count ≤ k → c ≡ compared + k → Progress e P T list₀ x (total + 1) c (set list total s)
+    hit-down all sum =
+        let n : equalDown P T s count ≡ count = omega (arith, d .is, d .upto) in
+        reported-as is (omega (arith, d .is, looks-all count (equalDown P T s count) (omega arith))) (eq-eqb (equalDown P T s count) count n)
 
     pub miss-down : k < count → c ≡ compared + k + 1 → Progress e P T list₀ x total c list
-    miss-down part sum = missed-as is (omega (arith, looks-part count (equalDown P T s count) (omega arith))) (ne-eqb (equalDown P T s count) count (λ f. omega arith))
+    miss-down part sum =
+        let n : equalDown P T s count < count = omega (arith, d .is) in
+        missed-as is (omega (arith, d .is, looks-part count (equalDown P T s count) n)) (ne-eqb (equalDown P T s count) count (λ f. omega arith))
 
 -- ---- the counters stay small: a total of at most n + 1, and at most m comparisons for each of n + 1 windows
 
@@ -169,8 +180,9 @@ run-small {w} {P} {T} sound short small =
 module _ {e : Engine} {P T list₀ : List ℕ} {x : State} {total compared : ℕ} {list : List ℕ} (p : Progress e P T list₀ x total compared list) where
   pub total-small : total ≤ 32769
   total-small =
-      omega
-      (arith, p .counted, p .small, occurrences-few P T, ap length (sym (positions-are (p .sound))), ap (λ vs. length (positionsIn vs)) (p .whole), ap length (positions-append (p .done) (runFrom (e .steps) P T x)), length-append (positionsIn (p .done)) (positionsIn (runFrom (e .steps) P T x)))
+      let rest : List Visit = runFrom (e .steps) P T x in
+      let all : positionsIn (p .done) ++ positionsIn rest ≡ occurrences P T = sym (positions-append (p .done) rest) ∙ ap positionsIn (p .whole) ∙ positions-are (p .sound) in
+      omega (arith, p .counted, p .small, occurrences-few P T, ap length all, length-append (positionsIn (p .done)) (positionsIn rest))
 
   pub compared-small : compared ≤ 33555456
   compared-small = omega (arith, p .looked, run-small (p .sound) (p .short) (p .small), ap comparedIn (p .whole), compared-append (p .done) (runFrom (e .steps) P T x))

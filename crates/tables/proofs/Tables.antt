@@ -3,7 +3,7 @@ use mathlib.Core.Path.{_≡_, refl, sym, ap, _∙_}
 use Prim.Native.Nat.{ℕ, zero, suc, _+_, _-_, _≤_, _<_}
 use native.Mathlib.Omega.{arith}
 use mathlib.Core.List.{List, [], _++_, append-assoc, append-nil}
-use mathlib.Core.Bool.{Bool, true, false, cond, _||_, true≢false}
+use mathlib.Core.Bool.{Bool, true, false, cond, true≢false}
 use lib.ListN.{length, getD, take, drop, set, take-append-drop, length-append, length-drop, length-set, drop-of-length-le, List·getD-append}
 use lib.Seq.{length-take-le, getD-take, getD-append-add, ext-getD, getD-set-same, getD-set-other, drop-set-lt, drop-drop, drop-at, take-at, take-all}
 use borrow.Rule.Slice.PartMut.{putMid, midOf}
@@ -180,30 +180,27 @@ module _ (most n : ℕ) (rule : ℕ → ℕ) (table : List ℕ) where
   pub made-by : n ≤ length table → most ≤ 65535 → made most (tabulate n rule) table ≡ tabulate n rule ++ drop n table
   made-by h k = made-is most (tabulate n rule) table (omega (arith, length-tabulate n rule)) k ∙ ap (λ i. tabulate n rule ++ drop i table) (length-tabulate n rule)
 
-  pub length-made : length (made most (tabulate n rule) table) ≡ length table
-  unfolding made
-  length-made =
-      by-test (λ t. (t ≡ false → n ≤ length table) → length (cond t table (tabulate n rule ++ drop (length (tabulate n rule)) table)) ≡ length table) (ltb (length table) (length (tabulate n rule)) || ltb 65535 most)
-      (λ _ _. refl)
-      (λ _ h. length-append (tabulate n rule) (drop (length (tabulate n rule)) table) ∙ omega (arith, length-tabulate n rule, length-drop (length (tabulate n rule)) table, h refl))
-      (λ e. omega (arith, length-tabulate n rule, ltb-false (length table) (length (tabulate n rule)) (neither (ltb (length table) (length (tabulate n rule))) (ltb 65535 most) e)))
-    where
-      neither : (a b : Bool) → a || b ≡ false → a ≡ false
-      neither true b e = absurd (true≢false e)
-      neither false b e = refl
+-- ---- what an engine knows of a table that stands in its scratch from place a on: each entry by its rule
 
--- ---- what an engine knows of a table at its scratch's front: each entry by its rule
+pub record Entries (a n : ℕ) (rule : ℕ → ℕ) (table : List ℕ) : Type 0 where
+  pub room : a + n ≤ length table
+  pub entry : (i : ℕ) → i < n → {p : ℕ} → p ≡ a + i → getD table p 0 ≡ rule i
 
-pub record Entries (n : ℕ) (rule : ℕ → ℕ) (table : List ℕ) : Type 0 where
-  pub room : n ≤ length table
-  pub entry : (i : ℕ) → i < n → getD table i 0 ≡ rule i
-
-pub made-entries : (most n : ℕ) (rule : ℕ → ℕ) (table : List ℕ) → n ≤ length table → most ≤ 65535 → {table′ : List ℕ} → table′ ≡ made most (tabulate n rule) table → Entries n rule table′
-made-entries most n rule table h k e =
+-- a table at the front
+pub front-entries : (n : ℕ) (rule : ℕ → ℕ) (rest : List ℕ) {table : List ℕ} → table ≡ tabulate n rule ++ rest → Entries 0 n rule table
+front-entries n rule rest e =
     record {
-      room = omega (arith, ap length e, length-made most n rule table);
-      entry = λ i l. ap (λ (t : List ℕ). getD t i 0) (e ∙ made-by most n rule table h k) ∙ tabulate-at n rule (drop n table) i l;
+      room = omega (arith, ap length e, length-append (tabulate n rule) rest, length-tabulate n rule);
+      entry = λ i h {p} is. ap (λ (t : List ℕ). getD t p 0) e ∙ at-same (tabulate n rule ++ rest) (omega arith) ∙ tabulate-at n rule rest i h;
     }
+
+-- a maker that had room, with no entry above 16 bits, filled the front: what it left, and each entry by its rule
+pub record Filled (n : ℕ) (rule : ℕ → ℕ) (table table′ : List ℕ) : Type 0 where
+  pub left : table′ ≡ tabulate n rule ++ drop n table
+  pub entries : Entries 0 n rule table′
+
+pub filled : (most n : ℕ) (rule : ℕ → ℕ) {table table′ : List ℕ} → n ≤ length table → most ≤ 65535 → table′ ≡ made most (tabulate n rule) table → Filled n rule table table′
+filled most n rule {table} h k e = let left = e ∙ made-by most n rule table h k in record { left = left; entries = front-entries n rule (drop n table) left }
 
 -- an entry as code reads it: by its rule, and within bounds
 pub record Reads (entry rule low high : ℕ) : Type 0 where
@@ -213,31 +210,21 @@ pub record Reads (entry rule low high : ℕ) : Type 0 where
 
 -- ---- two tables in one scratch: the first at the front, the second in the part from there on
 
--- what an engine knows of the second
-pub record EntriesFrom (a n : ℕ) (rule : ℕ → ℕ) (table : List ℕ) : Type 0 where
-  pub room : a + n ≤ length table
-  pub entry : (i : ℕ) → i < n → getD table (a + i) 0 ≡ rule i
-
 module _ (a b : ℕ) (f g : ℕ → ℕ) (rest : List ℕ) where
   both-grouped : (tabulate a f ++ tabulate b g) ++ rest ≡ tabulate a f ++ (tabulate b g ++ rest)
   both-grouped = append-assoc (tabulate a f) (tabulate b g) rest
 
-  pub first-entries : {table : List ℕ} → table ≡ (tabulate a f ++ tabulate b g) ++ rest → Entries a f table
-  first-entries e =
-      let e′ = e ∙ both-grouped in
-      record {
-        room = omega (arith, ap length e′, length-append (tabulate a f) (tabulate b g ++ rest), length-tabulate a f);
-        entry = λ i h. ap (λ (t : List ℕ). getD t i 0) e′ ∙ tabulate-at a f (tabulate b g ++ rest) i h;
-      }
+  pub first-entries : {table : List ℕ} → table ≡ (tabulate a f ++ tabulate b g) ++ rest → Entries 0 a f table
+  first-entries e = front-entries a f (tabulate b g ++ rest) (e ∙ both-grouped)
 
-  pub second-entries : {table : List ℕ} → table ≡ (tabulate a f ++ tabulate b g) ++ rest → EntriesFrom a b g table
+  pub second-entries : {table : List ℕ} → table ≡ (tabulate a f ++ tabulate b g) ++ rest → Entries a b g table
   second-entries {table} e =
       let e′ = e ∙ both-grouped in
       let n : length (tabulate a f) ≡ a = length-tabulate a f in
       record {
         room = omega (arith, ap length e′, length-append (tabulate a f) (tabulate b g ++ rest), length-append (tabulate b g) rest, length-tabulate b g);
-        entry = λ i h.
-            ap (λ (t : List ℕ). getD t (a + i) 0) e′ ∙ ap (λ (k : ℕ). getD (tabulate a f ++ (tabulate b g ++ rest)) (k + i) 0) (sym n)
+        entry = λ i h {p} is.
+            ap (λ (t : List ℕ). getD t p 0) e′ ∙ at-same (tabulate a f ++ (tabulate b g ++ rest)) {j = length (tabulate a f) + i} (omega arith)
             ∙ getD-append-add (tabulate a f) (tabulate b g ++ rest) i 0 ∙ tabulate-at b g rest i h;
       }
 

@@ -156,7 +156,7 @@ mul-entry : tie.Need-mul-entry Inv-loop2 μ-loop2 Inv-loop μ-loop
 mul-entry c = omega arith
 
 slice-read-entry : tie.Need-slice-read-entry Inv-loop2 μ-loop2 Inv-loop μ-loop
-slice-read-entry c = let m = c .before .before .before .before .before .before .before .before .before .loop .inv in omega (arith, m .ruled .long, m .fits)
+slice-read-entry c = let d = c .before .before .before .before in let m = d .before .before .before .before .before .loop .inv in omega (arith, m .ruled .long, m .fits)
 
 mul-table : tie.Need-mul-table Inv-loop2 μ-loop2 Inv-loop μ-loop
 mul-table c = omega arith

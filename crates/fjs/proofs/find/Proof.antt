@@ -1,22 +1,27 @@
 -- `fjs::find` meets its contract: the tables are made, and a search without a limit finds all. Demand 3's bound is that of the steps (proofs/Bound.antt). Assumes nothing.
 use borrow.Author.Needs.{needs}
-use mathlib.Core.Path.{refl, sym, _∙_}
+use mathlib.Core.Path.{refl}
 use mathlib.Core.Logic.{inl}
-use Prim.Native.Nat.{_+_}
 use native.Mathlib.Omega.{arith}
-use lib.ListN.{length, drop}
 use Rattle.matching.proofs.Occurrences.{occurrences-few}
-use Rattle.matching.proofs.Find.{Within, within, found-refused, found-accepted}
-use Rattle.matching.proofs.Progress.{compared-fits}
+use Rattle.matching.proofs.Find.{found-refused, found-accepted}
+use Rattle.matching.proofs.Progress.{Accepted, accepted, compared-fits}
 use Rattle.fjs.specs.Fjs.{fjs}
 use Rattle.fjs.proofs.Sound.{sound}
 use Rattle.fjs.proofs.Bound.{bound}
+use Rattle.fjs.proofs.Ready.{ready}
 use Rattle.fjs.proofs.find.Statement.{statement}
 use Rattle.fjs.proofs.find.Tie as tie
 
--- the limits that hold where the call is not refused
-limits : (e : tie.Else1) → let a = e .before .before .before .before .before .before .args in Within (length (a .pattern .now)) (length (a .text .now)) (length (a .scratch .now)) (256 + (length (a .pattern .now) + 1))
-limits e = within _ _ _ _ (sym (e .before .refused .ensures) ∙ e .if1 .left)
+-- the call, from where it is not refused; that place, from where the search is done
+abbrev call : tie.Else1 → tie.Start
+call e = e .before .before .before .before .before .before
+
+abbrev entered : tie.After-search → tie.Else1
+entered s = s .before .before .before .before .before .before .before
+
+allowed : (e : tie.Else1) → let a = call e .args in Accepted fjs (a .pattern .now) (a .text .now) (a .scratch .now)
+allowed e = accepted (e .before .refused .ensures) (e .if1 .left)
 
 add-refused : tie.Need-add-refused
 add-refused c = search needs
@@ -31,28 +36,22 @@ returns : tie.Need-returns
 returns c = (found-refused (c .before .refused .ensures) (c .if1 .taken), λ h. omega arith)
 
 make-tables-requires : tie.Need-make-tables-requires
-make-tables-requires c κs = let l = limits (c .before) in (l .short, l .room)
+make-tables-requires c κs = let l = allowed (c .before) .limits in (l .short, l .room)
 
 search-requires : tie.Need-search-requires
-search-requires c κs =
-    let t = c .before .before .before .before in
-    let e = t .before .before in
-    let l = limits e in
-    record { some = l .some; short = l .short; small = l .small; rest = drop (256 + (length (e .before .before .before .before .before .before .args .pattern .now) + 1)) (e .before .before .before .before .before .before .args .scratch .now); tables = t .make-tables .ensures }
+search-requires c κs = let t = c .before .before .before .before in ready (allowed (t .before .before)) (t .make-tables .ensures)
 
 cast-found : tie.Need-cast-found
 cast-found c =
     let s = c .before .before .before in
-    let e = s .before .before .before .before .before .before .before in
-    let a = e .before .before .before .before .before .before .args in
-    omega (arith, s .search .ensures .total (inl refl), occurrences-few (a .pattern .now) (a .text .now), limits e .small)
+    let a = call (entered s) .args in
+    omega (arith, s .search .ensures .total (inl refl), occurrences-few (a .pattern .now) (a .text .now), allowed (entered s) .limits .small)
 
 cast-looks : tie.Need-cast-looks
 cast-looks c =
     let s = c .before .before .before .before in
-    let e = s .before .before .before .before .before .before .before in
-    let a = e .before .before .before .before .before .before .args in
-    let l = limits e in
+    let a = call (entered s) .args in
+    let l = allowed (entered s) .limits in
     omega (arith, s .search .ensures .comparisons (inl refl), compared-fits fjs (sound (a .pattern .now) (a .text .now) (l .some)) (l .short) (l .small))
 
 same-length : tie.Need-same-length
@@ -64,11 +63,11 @@ same-length-2 c = c .before .before .before .before .search .ensures .long
 returns-2 : tie.Need-returns-2
 returns-2 c =
     let s = c .before .before .before .before in
-    let e = s .before .before .before .before .before .before .before in
-    let a = e .before .before .before .before .before .before .args in
+    let a = call (entered s) .args in
+    let g = allowed (entered s) in
     let r = s .search .ensures in (
-      found-accepted (sym (e .before .refused .ensures) ∙ e .if1 .left) (r .total (inl refl)) (r .comparisons (inl refl)) (s .before .before .before .before .before .make-tables .ensures) (r .listed (inl refl)),
-      λ h. omega (arith, r .comparisons (inl refl), bound (a .pattern .now) (a .text .now) (limits e .some) h),
+      found-accepted (g .none) (r .total (inl refl)) (r .comparisons (inl refl)) (s .before .before .before .before .before .make-tables .ensures) (r .listed (inl refl)),
+      λ h. omega (arith, r .comparisons (inl refl), bound (a .pattern .now) (a .text .now) (g .limits .some) h),
     )
 
 pub find-spec : {M : Type 1} → statement M

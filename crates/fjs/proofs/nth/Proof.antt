@@ -2,7 +2,7 @@
 use borrow.Author.Needs.{needs}
 use mathlib.Core.Path.{_≡_, refl, sym, ap, _∙_}
 use mathlib.Core.Logic.{inr}
-use Prim.Native.Nat.{ℕ, _+_, _-_, _≤_, _<_}
+use Prim.Native.Nat.{ℕ, _-_, _≤_, _<_}
 use native.Mathlib.Omega.{arith}
 use mathlib.Core.Bool.{cond}
 use mathlib.Core.List.{List, [], _∷_, _++_}
@@ -13,13 +13,14 @@ use Rattle.matching.specs.Occurrences.{occurrences, hasNth}
 use Rattle.matching.specs.Find.{refusalOf}
 use Rattle.matching.proofs.Tests.{by-test}
 use Rattle.matching.proofs.Occurrences.{occurrences-below}
-use Rattle.matching.proofs.Find.{Within, within}
+use Rattle.matching.proofs.Progress.{Accepted, accepted}
 use Rattle.fjs.specs.declared.Place.{Place}
 use Rattle.fjs.specs.declared.Place.the-variants.{Refused, At, Nothing}
 use Rattle.fjs.specs.declared.Tally.{Tally}
 use Rattle.fjs.specs.Fjs.{fjs}
 use Rattle.fjs.specs.Nth.{number, placesMeant, nthOf, nthAnswer, Located}
 use Rattle.fjs.specs.Search.{Searched}
+use Rattle.fjs.proofs.Ready.{ready}
 use Rattle.fjs.proofs.nth.Statement.{statement}
 use Rattle.fjs.proofs.nth.Tie as tie
 
@@ -51,11 +52,11 @@ module _ {P T scratch : List ℕ} {ordinal : ℕ} where
   unfolding nthAnswer
   refused {number} is some = let off = ne-eqb (refusalOf fjs P T scratch) 0 (λ z. some (is ∙ z)) in record { answer = rw (off, is); numbered = rw off is; meant = rw off; left = rw off }
 
-  accepted : refusalOf fjs P T scratch ≡ 0 → {r : Place} {scratch′ : List ℕ} → r ≡ nthOf (occurrences P T) ordinal → scratch′ ≡ fjs .tables P ++ drop (fjs .entries (length P)) scratch
+  located : Accepted fjs P T scratch → {r : Place} {scratch′ : List ℕ} → r ≡ nthOf (occurrences P T) ordinal → scratch′ ≡ fjs .tables P ++ drop (fjs .entries (length P)) scratch
       → Located P T scratch ordinal r scratch′
   unfolding nthAnswer
-  accepted none a t =
-      let on = eq-eqb (refusalOf fjs P T scratch) 0 none in
+  located g a t =
+      let on = eq-eqb (refusalOf fjs P T scratch) 0 (g .none) in
       record {
         answer = rw on a;
         numbered = rw on (ap number a ∙ nth-number (occurrences P T) ordinal);
@@ -88,8 +89,19 @@ module _ {P T list list′ : List ℕ} {ordinal : ℕ} {r : Tally} (s : Searched
 
 -- ---- the function
 
-limits : (e : tie.Else1) → let a = e .before .before .before .before .before .args in Within (length (a .pattern .now)) (length (a .text .now)) (length (a .scratch .now)) (256 + (length (a .pattern .now) + 1))
-limits e = within _ _ _ _ (sym (e .before .refused .ensures) ∙ e .if1 .left)
+-- the call, from where it is not refused; where the tables are made, from where the search is done
+abbrev call : tie.Else1 → tie.Start
+call e = e .before .before .before .before .before
+
+abbrev maker : tie.After-search → tie.After-make-tables
+maker s = s .before .before .before .before .before .before
+
+allowed : (e : tie.Else1) → let a = call e .args in Accepted fjs (a .pattern .now) (a .text .now) (a .scratch .now)
+allowed e = accepted (e .before .refused .ensures) (e .if1 .left)
+
+-- an ordinal is asked for
+asked : (s : tie.After-search) → 1 ≤ call (maker s .before .before) .args .ordinal
+asked s = omega (arith, s .before .before .before .if2 .left)
 
 add-refused : tie.Need-add-refused
 add-refused c = search needs
@@ -104,7 +116,7 @@ returns : tie.Need-returns
 returns c = refused (c .before .refused .ensures) (c .if1 .taken)
 
 make-tables-requires : tie.Need-make-tables-requires
-make-tables-requires c κs = let l = limits (c .before) in (l .short, l .room)
+make-tables-requires c κs = let l = allowed (c .before) .limits in (l .short, l .room)
 
 same-length : tie.Need-same-length
 same-length c = search needs
@@ -112,19 +124,14 @@ same-length c = search needs
 returns-2 : tie.Need-returns-2
 returns-2 c =
     let t = c .before .before .before in
-    let e = t .before .before in
-    let a = e .before .before .before .before .before .args in
-    accepted (sym (e .before .refused .ensures) ∙ e .if1 .left) (rw (c .if2 .taken) (sym (nth-before (occurrences (a .pattern .now) (a .text .now))))) (t .make-tables .ensures)
+    let a = call (t .before .before) .args in
+    located (allowed (t .before .before)) (rw (c .if2 .taken) (sym (nth-before (occurrences (a .pattern .now) (a .text .now))))) (t .make-tables .ensures)
 
 slice-aggregate-search : tie.Need-slice-aggregate-search
 slice-aggregate-search c = search needs
 
 search-requires : tie.Need-search-requires
-search-requires c κs =
-    let t = c .before .before .before .before .before in
-    let e = t .before .before in
-    let l = limits e in
-    record { some = l .some; short = l .short; small = l .small; rest = drop (256 + (length (e .before .before .before .before .before .args .pattern .now) + 1)) (e .before .before .before .before .before .args .scratch .now); tables = t .make-tables .ensures }
+search-requires c κs = let t = c .before .before .before .before .before in ready (allowed (t .before .before)) (t .make-tables .ensures)
 
 same-length-2 : tie.Need-same-length-2
 same-length-2 c = search needs
@@ -132,15 +139,12 @@ same-length-2 c = search needs
 returns-3 : tie.Need-returns-3
 returns-3 c =
     let s = c .before .before .before in
-    let t = s .before .before .before .before .before .before in
-    let e = t .before .before in
-    accepted (sym (e .before .refused .ensures) ∙ e .if1 .left) (none-there (s .search .ensures) (omega (arith, s .before .before .before .if2 .left)) (c .if3 .taken)) (t .make-tables .ensures)
+    located (allowed (maker s .before .before)) (none-there (s .search .ensures) (asked s) (c .if3 .taken)) (maker s .make-tables .ensures)
 
 cast-place : tie.Need-cast-place
 cast-place c =
     let s = c .before .before .before .before in
-    let e = s .before .before .before .before .before .before .before .before in
-    omega (arith, last-small (s .search .ensures) (omega (arith, s .before .before .before .if2 .left)) (c .before .if3 .left), limits e .small)
+    omega (arith, last-small (s .search .ensures) (asked s) (c .before .if3 .left), allowed (maker s .before .before) .limits .small)
 
 same-length-3 : tie.Need-same-length-3
 same-length-3 c = search needs
@@ -148,9 +152,7 @@ same-length-3 c = search needs
 returns-4 : tie.Need-returns-4
 returns-4 c =
     let s = c .before .before .before .before in
-    let t = s .before .before .before .before .before .before in
-    let e = t .before .before in
-    accepted (sym (e .before .refused .ensures) ∙ e .if1 .left) (last-there (s .search .ensures) (omega (arith, s .before .before .before .if2 .left)) (c .before .if3 .left)) (t .make-tables .ensures)
+    located (allowed (maker s .before .before)) (last-there (s .search .ensures) (asked s) (c .before .if3 .left)) (maker s .make-tables .ensures)
 
 pub nth-spec : {M : Type 1} → statement M
 nth-spec =

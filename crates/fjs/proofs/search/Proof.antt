@@ -1,33 +1,31 @@
 -- `fjs::search` meets its contract. The loop's invariant is the run's progress (`matching`), with the total below the limit; the inner loop reaches as far from letter k + 1 on as
 -- from the first letter that is not carried. The loop is left by its test, where no letter follows the window, or at the occurrence that was wanted. Assumes nothing.
-use mathlib.Core.Path.{_≡_, refl, sym, ap, _∙_}
+use mathlib.Core.Path.{_≡_, refl, ap, _∙_}
 use mathlib.Core.Logic.{inl, inr, ⊎-elim}
 use Prim.Native.Nat.{ℕ, _+_, _-_, _≤_, _<_}
 use native.Mathlib.Omega.{arith}
 use mathlib.Core.List.{List}
 use lib.ListN.{length, getD, length-set}
-use Rattle.matching.specs.Letters.{reach}
 use Rattle.matching.specs.Machine.{at}
-use Rattle.matching.proofs.Letters.{reach-equal}
-use Rattle.matching.proofs.Find.{none-refused}
-use Rattle.matching.proofs.Progress.{Progress, begins, total-small, compared-small, same-list, past, stopped}
+use Rattle.matching.proofs.Letters.{Upward, up-none, up-next}
+use Rattle.matching.proofs.Progress.{Progress, begins, total-small, compared-small, same-list, past}
+use Rattle.tables.proofs.Tables.{Reads}
 use Rattle.letter_tables.specs.BadCharacter.{sundayEntry}
+use Rattle.letter_tables.proofs.BadCharacter.{sunday-reads}
+use Rattle.letter_tables.proofs.Moves.{sunday-goes, sunday-over}
 use Rattle.border_tables.specs.Kmp.{kmpEntry}
 use Rattle.border_tables.specs.Moves.{kmpMove}
-use Rattle.tables.proofs.Tables.{Entries, EntriesFrom, Reads, first-entries, second-entries}
-use Rattle.letter_tables.proofs.BadCharacter.{sunday-reads}
-use Rattle.border_tables.proofs.Kmp.{kmp-reads-from}
-use Rattle.letter_tables.proofs.Moves.{sunday-next, sunday-stop}
-use Rattle.border_tables.proofs.Moves.{kmp-next}
+use Rattle.border_tables.proofs.Kmp.{kmp-reads}
+use Rattle.border_tables.proofs.Moves.{kmp-goes}
 use Rattle.fjs.specs.Fjs.{fjs}
-use Rattle.fjs.specs.Search.{Ready}
 use Rattle.fjs.proofs.Sound.{sound}
 use Rattle.fjs.proofs.Steps.{end-differs, Begun, begun-le, miss, hit, hit-more, hit-place, Under, under-start, under-more, searched-all, searched-one}
+use Rattle.fjs.proofs.Ready.{sundays, kmps, limits}
 use Rattle.fjs.proofs.search.Statement.{statement}
 use Rattle.fjs.proofs.search.Tie as tie
 
 abbrev Inv-loop2 : tie.InvT-loop2
-Inv-loop2 pattern text scratch list limit m n end total compared last s q until k₀ k = (reach pattern text s k ≡ reach pattern text s q) × ((q ≤ k) × (k ≤ until))
+Inv-loop2 pattern text scratch list limit m n end total compared last s q until k₀ k = Upward pattern text s q until k
 
 abbrev μ-loop2 : tie.MeasureT-loop2
 μ-loop2 pattern text scratch list limit m n end total compared last s q until k₀ k = until - k
@@ -39,33 +37,44 @@ Inv-loop pattern text scratch list₀ limit m n end total₀ compared₀ last₀
 abbrev μ-loop : tie.MeasureT-loop
 μ-loop pattern text scratch list₀ limit m n end total₀ compared₀ last₀ s₀ q₀ list total compared last s q = length text + 1 - s
 
--- both tables, as they stand in the scratch
-sundays : {P T scratch : List ℕ} → Ready P T scratch → Entries 256 (sundayEntry P) scratch
-sundays {P} r = first-entries 256 (length P + 1) (sundayEntry P) (kmpEntry P) (r .rest) (r .tables)
+-- the call, from the loop; its pattern and its text
+abbrev start : tie.At-loop Inv-loop2 μ-loop2 Inv-loop μ-loop → tie.Start Inv-loop2 μ-loop2 Inv-loop μ-loop
+start l = l .before .before .before .before .before
 
-kmps : {P T scratch : List ℕ} → Ready P T scratch → EntriesFrom 256 (length P + 1) (kmpEntry P) scratch
-kmps {P} r = second-entries 256 (length P + 1) (sundayEntry P) (kmpEntry P) (r .rest) (r .tables)
+abbrev P : tie.At-loop Inv-loop2 μ-loop2 Inv-loop μ-loop → List ℕ
+P l = start l .args .pattern .now
+
+abbrev T : tie.At-loop Inv-loop2 μ-loop2 Inv-loop μ-loop → List ℕ
+T l = start l .args .text .now
+
+-- the loop, from the inner loop; the inner loop, from where a window is done; the loop, from where the letter after the window is read
+abbrev outer : tie.At-loop2 Inv-loop2 μ-loop2 Inv-loop μ-loop → tie.At-loop Inv-loop2 μ-loop2 Inv-loop μ-loop
+outer i = i .before .before .before
+
+abbrev inner : tie.Joined5 Inv-loop2 μ-loop2 Inv-loop μ-loop → tie.At-loop2 Inv-loop2 μ-loop2 Inv-loop μ-loop
+inner j = j .before .before .before
+
+abbrev jumping : tie.After-shared-slice-known6 Inv-loop2 μ-loop2 Inv-loop μ-loop → tie.At-loop Inv-loop2 μ-loop2 Inv-loop μ-loop
+jumping c = c .before .before .before .before .before .before .before
 
 -- the window lies in the text
-within : (i : tie.In-loop Inv-loop2 μ-loop2 Inv-loop μ-loop) → let l = i .before in let a = l .before .before .before .before .before .args in l .loop .s + length (a .pattern .now) ≤ length (a .text .now)
+within : (i : tie.In-loop Inv-loop2 μ-loop2 Inv-loop μ-loop) → let l = i .before in l .loop .s + length (P l) ≤ length (T l)
 within i = omega (arith, i .loop-test .taken)
 
 -- the comparing left to right begins
 begun : (j : tie.Joined1 Inv-loop2 μ-loop2 Inv-loop μ-loop) → let l = j .before .before in Begun (l .loop .inv .0) (within (j .before)) (j .if1 .until) (j .if1 .compared)
 begun j =
-    let l = j .before .before in
     ⊎-elim
     (λ w. inl (w .0 .taken, (w .3 .left, (w .5, w .4))))
     (λ w. inr (omega (arith, w .0 .left), (w .2, w .1)))
     (j .if1 .came)
 
-until-le : (j : tie.Joined1 Inv-loop2 μ-loop2 Inv-loop μ-loop) → let l = j .before .before in let a = l .before .before .before .before .before .args in
-    (j .if1 .until ≤ length (a .pattern .now)) × ((l .loop .q ≤ j .if1 .until) × (j .if1 .compared ≤ l .loop .compared + 1))
-until-le j = let l = j .before .before in begun-le (l .loop .inv .0) (within (j .before)) (begun j)
+until-le : (j : tie.Joined1 Inv-loop2 μ-loop2 Inv-loop μ-loop) → let l = j .before .before in (j .if1 .until ≤ length (P l)) × ((l .loop .q ≤ j .if1 .until) × (j .if1 .compared ≤ l .loop .compared + 1))
+until-le j = begun-le (j .before .before .loop .inv .0) (within (j .before)) (begun j)
 
 -- the inner loop left before its end: the letters differ
-differs : (d : tie.Left-loop2 Inv-loop2 μ-loop2 Inv-loop μ-loop) → d .before .loop2 .k < d .before .before .if1 .until
-    → let l = d .before .before .before .before in let a = l .before .before .before .before .before .args in getD (a .pattern .now) (d .before .loop2 .k) 0 ≡ getD (a .text .now) (l .loop .s + d .before .loop2 .k) 0 → ⊥
+differs : (d : tie.Left-loop2 Inv-loop2 μ-loop2 Inv-loop μ-loop) → let i = d .before in let l = outer i in
+    i .loop2 .k < i .before .if1 .until → getD (P l) (i .loop2 .k) 0 ≡ getD (T l) (l .loop .s + i .loop2 .k) 0 → ⊥
 differs d h = ⊎-elim (λ w. absurd (omega (arith, w .left))) (λ w. w .3 .taken) (d .loop2-test .came)
 
 -- one window done, whether it reports or not
@@ -75,30 +84,25 @@ record Stepped (P T list₀ : List ℕ) (s k limit total compared : ℕ) (list :
   under : Under limit total
 
 stepped : (j : tie.Joined5 Inv-loop2 μ-loop2 Inv-loop μ-loop)
-    → let l = j .before .before .before .before .before .before in let a = l .before .before .before .before .before .args in
-    Stepped (a .pattern .now) (a .text .now) (a .list .now) (l .loop .s) (j .if5 .k) (a .limit) (j .if5 .total) (j .if5 .compared) (j .if5 .list)
+    → let l = outer (j .before .before .before) in let a = start l .args in Stepped (P l) (T l) (a .list .now) (l .loop .s) (j .if5 .k) (a .limit) (j .if5 .total) (j .if5 .compared) (j .if5 .list)
 stepped j =
-    let d = j .before .before in
-    let i = d .before in
-    let l = i .before .before .before in
-    let p = l .loop .inv .0 in
-    let u = l .loop .inv .1 .1 in
+    let i = j .before .before .before in
+    let p = outer i .loop .inv .0 in
+    let u = outer i .loop .inv .1 .1 in
     let h = within (i .before .before) in
     let g = begun (i .before) in
     let le = until-le (i .before) in
-    let inv = i .loop2 .inv in
     ⊎-elim
     (λ w.
     let part = w .0 .taken in
     record {
-      progress = rw (w .1, w .2, w .3, w .5) (miss p h g (i .loop2 .k) (inv .0) (inv .1 .0) part (differs d part) refl);
+      progress = rw (w .1, w .2, w .3, w .5) (miss p h g (i .loop2 .inv) part (differs (j .before .before) part) refl);
       few = omega (arith, w .5, le .0);
       under = rw (w .2) u;
     })
     (λ w.
-    let all : i .loop2 .k ≡ i .before .if1 .until = omega (arith, w .0 .left, inv .1 .1) in
     record {
-      progress = rw (w .6, w .7, w .8, w .10, w .2 .ensures) (hit p h g (i .loop2 .k) (inv .0) (inv .1 .0) all refl);
+      progress = rw (w .6, w .7, w .8, w .10, w .2 .ensures) (hit p h g (i .loop2 .inv) (w .0 .left) refl);
       few = omega (arith, w .10);
       under = rw (w .7) (under-more u (w .5 .left));
     })
@@ -106,30 +110,16 @@ stepped j =
 
 -- the KMP move
 moved : (c : tie.After-shared-slice-known10 Inv-loop2 μ-loop2 Inv-loop μ-loop)
-    → let j = c .before .before in let st = c .before .before .before .before .before .before .before .before .before .before .before .before .before in
-    Reads (getD (st .args .scratch .now) (256 + j .if5 .k) 0) (kmpEntry (st .args .pattern .now) (j .if5 .k)) 0 (j .if5 .k)
-moved c = let j = c .before .before in let st = c .before .before .before .before .before .before .before .before .before .before .before .before .before in kmp-reads-from (st .args .pattern .now) 256 (j .if5 .k) (kmps (st .pre)) (stepped j .few)
+    → let j = c .before .before in let l = outer (inner j) in Reads (getD (start l .args .scratch .now) (256 + j .if5 .k) 0) (kmpEntry (P l) (j .if5 .k)) 0 (j .if5 .k)
+moved c = let j = c .before .before in let l = outer (inner j) in kmp-reads (P l) (kmps (start l .pre)) (stepped j .few) refl
 
-moves-on : (c : tie.After-shared-slice-known10 Inv-loop2 μ-loop2 Inv-loop μ-loop) (q′ : ℕ)
-    → let j = c .before .before in let l = c .before .before .before .before .before .before .before .before in let a = l .before .before .before .before .before .args in let b = getD (a .scratch .now) (256 + j .if5 .k) 0 in q′ ≡ b - 1
-    → Progress fjs (a .pattern .now) (a .text .now) (a .list .now) (at (l .loop .s + (j .if5 .k + 1 - b)) q′) (j .if5 .total) (j .if5 .compared) (j .if5 .list)
-moves-on c q′ e =
-    let j = c .before .before in
-    let l = c .before .before .before .before .before .before .before .before in
-    let a = l .before .before .before .before .before .args in
-    let b = getD (a .scratch .now) (256 + j .if5 .k) 0 in
-    let m = moved c in
-    rw (kmp-next (a .pattern .now) (l .loop .s) (j .if5 .k) b (l .loop .s + (j .if5 .k + 1 - b)) q′ (m .is) (omega (arith, m .most)) e) at (stepped j .progress)
+-- the Sunday move, by the letter after the window
+byte : (c : tie.After-shared-slice-known6 Inv-loop2 μ-loop2 Inv-loop μ-loop) → let l = jumping c in getD (T l) (l .loop .s + length (P l)) 0 < 256
+byte c = let l = jumping c in omega (arith, c .shared-slice-known6 .given (l .loop .s + length (P l)))
 
--- the Sunday move
 jumped : (c : tie.After-shared-slice-known7 Inv-loop2 μ-loop2 Inv-loop μ-loop)
-    → let l = c .before .before .before .before .before .before .before .before in let a = l .before .before .before .before .before .args in let u = getD (a .text .now) (l .loop .s + length (a .pattern .now)) 0 in
-    Reads (getD (a .scratch .now) u 0) (sundayEntry (a .pattern .now) u) 1 (length (a .pattern .now) + 1)
-jumped c =
-    let l = c .before .before .before .before .before .before .before .before in
-    let a = l .before .before .before .before .before .args in
-    let byte = c .before .shared-slice-known6 .given (l .loop .s + length (a .pattern .now)) in
-    sunday-reads (a .pattern .now) _ (sundays (l .before .before .before .before .before .pre)) (omega arith)
+    → let l = jumping (c .before) in let u = getD (T l) (l .loop .s + length (P l)) 0 in Reads (getD (start l .args .scratch .now) u 0) (sundayEntry (P l) u) 1 (length (P l) + 1)
+jumped c = let l = jumping (c .before) in sunday-reads (P l) (getD (T l) (l .loop .s + length (P l)) 0) (sundays (start l .pre)) (byte (c .before))
 
 sub-end : tie.Need-sub-end Inv-loop2 μ-loop2 Inv-loop μ-loop
 sub-end c = c .before .before .before .before .pre .some
@@ -138,12 +128,7 @@ loop-holds : tie.Need-loop-holds Inv-loop2 μ-loop2 Inv-loop μ-loop
 loop-holds c =
     let st = c .before .before .before .before in
     let a = st .args in
-    let r = st .pre in (
-      begins fjs (a .pattern .now) (a .text .now) (a .scratch .now) (a .list .now)
-          (none-refused (length (a .pattern .now)) (length (a .text .now)) (length (a .scratch .now)) _ (record { some = r .some; short = r .short; small = r .small; room = kmps r .room }))
-          (sound (a .pattern .now) (a .text .now)),
-      (omega arith, under-start (a .limit)),
-    )
+    (begins (limits (st .pre)) (sound (a .pattern .now) (a .text .now)), (omega arith, under-start (a .limit)))
 
 add-loop : tie.Need-add-loop Inv-loop2 μ-loop2 Inv-loop μ-loop
 add-loop c = omega (arith, c .loop .inv .0 .short, c .loop .inv .0 .small)
@@ -170,34 +155,33 @@ shared-slice-read-s : tie.Need-shared-slice-read-s Inv-loop2 μ-loop2 Inv-loop �
 shared-slice-read-s c = omega arith
 
 cast-s : tie.Need-cast-s Inv-loop2 μ-loop2 Inv-loop μ-loop
-cast-s c = let l = c .before .before .before .before .before .before .before in omega (arith, c .shared-slice-known6 .given (l .loop .s + length (l .before .before .before .before .before .args .pattern .now)))
+cast-s c = omega (arith, byte c)
 
 mul-s : tie.Need-mul-s Inv-loop2 μ-loop2 Inv-loop μ-loop
-mul-s c = let l = c .before .before .before .before .before .before .before in omega (arith, c .shared-slice-known6 .given (l .loop .s + length (l .before .before .before .before .before .args .pattern .now)))
+mul-s c = omega (arith, byte c)
 
 shared-slice-read-s-2 : tie.Need-shared-slice-read-s-2 Inv-loop2 μ-loop2 Inv-loop μ-loop
-shared-slice-read-s-2 c = let l = c .before .before .before .before .before .before .before .before in omega (arith, c .before .shared-slice-known6 .given (l .loop .s + length (l .before .before .before .before .before .args .pattern .now)), sundays (l .before .before .before .before .before .pre) .room)
+shared-slice-read-s-2 c = omega (arith, byte (c .before), sundays (start (jumping (c .before)) .pre) .room)
 
 cast-s-2 : tie.Need-cast-s-2 Inv-loop2 μ-loop2 Inv-loop μ-loop
-cast-s-2 c = omega (arith, jumped c .most, c .before .before .before .before .before .before .before .before .loop .inv .0 .short)
+cast-s-2 c = omega (arith, jumped c .most, jumping (c .before) .loop .inv .0 .short)
 
 add-s-2 : tie.Need-add-s-2 Inv-loop2 μ-loop2 Inv-loop μ-loop
-add-s-2 c = let p = c .before .before .before .before .before .before .before .before .loop .inv .0 in omega (arith, jumped c .most, p .short, p .small)
+add-s-2 c = let p = jumping (c .before) .loop .inv .0 in omega (arith, jumped c .most, p .short, p .small)
 
 loop-less : tie.Need-loop-less Inv-loop2 μ-loop2 Inv-loop μ-loop
 loop-less c = omega (arith, jumped c .least)
 
 loop-again : tie.Need-loop-again Inv-loop2 μ-loop2 Inv-loop μ-loop
 loop-again c =
-    let l = c .before .before .before .before .before .before .before .before in
-    let a = l .before .before .before .before .before .args in
+    let l = jumping (c .before) in
     let j = jumped c in
     let zero = c .before .before .before .before .before .before .if1 .taken in
-    let p = rw (sunday-next (a .pattern .now) (a .text .now) (l .loop .s) _ (omega arith) (j .is)) at (end-differs (l .loop .inv .0) (omega arith) zero (c .before .before .before .if2 .taken)) in
-    (rw zero p, (omega (arith, j .most), l .loop .inv .1 .1))
+    let p = end-differs (l .loop .inv .0) (omega arith) zero (c .before .before .before .if2 .taken) in
+    (rw zero (sunday-goes (l .loop .s) p (omega arith) j), (omega (arith, j .most), l .loop .inv .1 .1))
 
 loop2-holds : tie.Need-loop2-holds Inv-loop2 μ-loop2 Inv-loop μ-loop
-loop2-holds c = (refl, (omega arith, until-le c .1 .0))
+loop2-holds c = up-none refl (until-le c .1 .0)
 
 shared-slice-read-if4 : tie.Need-shared-slice-read-if4 Inv-loop2 μ-loop2 Inv-loop μ-loop
 shared-slice-read-if4 c = omega (arith, until-le (c .before .before .before) .0)
@@ -209,57 +193,52 @@ shared-slice-read-if4-2 : tie.Need-shared-slice-read-if4-2 Inv-loop2 μ-loop2 In
 shared-slice-read-if4-2 c = omega (arith, until-le (c .before .before .before .before) .0)
 
 add-k : tie.Need-add-k Inv-loop2 μ-loop2 Inv-loop μ-loop
-add-k c = let i = c .before .before .before .before in omega (arith, until-le (i .before) .0)
+add-k c = omega (arith, until-le (c .before .before .before .before .before) .0)
 
 loop2-less : tie.Need-loop2-less Inv-loop2 μ-loop2 Inv-loop μ-loop
 loop2-less c = omega arith
 
 loop2-again : tie.Need-loop2-again Inv-loop2 μ-loop2 Inv-loop μ-loop
-loop2-again c =
-    let i = c .before .before .before .before in
-    let l = i .before .before .before in
-    let a = l .before .before .before .before .before .args in
-    let le = until-le (i .before) in
-    (sym (reach-equal (a .pattern .now) (a .text .now) (l .loop .s) (i .loop2 .k) (omega arith) (omega arith) (c .if4 .left)) ∙ i .loop2 .inv .0, (omega arith, omega arith))
+loop2-again c = let i = c .before .before .before .before in up-next (i .loop2 .inv) (within (i .before .before)) (omega arith) (until-le (i .before) .0) (c .if4 .left)
 
 sub-compared : tie.Need-sub-compared Inv-loop2 μ-loop2 Inv-loop μ-loop
-sub-compared c = omega (arith, c .before .loop2 .inv .1 .0)
+sub-compared c = omega (arith, c .before .loop2 .inv .from)
 
 add-compared-2 : tie.Need-add-compared-2 Inv-loop2 μ-loop2 Inv-loop μ-loop
-add-compared-2 c = let i = c .before .before in let p = i .before .before .before .loop .inv .0 in omega (arith, compared-small p, p .short, until-le (i .before), i .loop2 .inv .1 .1)
+add-compared-2 c = let i = c .before .before in let p = outer i .loop .inv .0 in omega (arith, compared-small p, p .short, until-le (i .before), i .loop2 .inv .upto)
 
 add-compared-3 : tie.Need-add-compared-3 Inv-loop2 μ-loop2 Inv-loop μ-loop
-add-compared-3 c = let i = c .before .before .before in let p = i .before .before .before .loop .inv .0 in omega (arith, compared-small p, p .short, until-le (i .before), i .loop2 .inv .1 .1)
+add-compared-3 c = let i = c .before .before .before in let p = outer i .loop .inv .0 in omega (arith, compared-small p, p .short, until-le (i .before), i .loop2 .inv .upto)
 
 cast-store : tie.Need-cast-store Inv-loop2 μ-loop2 Inv-loop μ-loop
-cast-store c = omega (arith, c .before .before .before .before .before .before .before .loop .inv .0 .small)
+cast-store c = omega (arith, outer (c .before .before .before .before) .loop .inv .0 .small)
 
 store-requires : tie.Need-store-requires Inv-loop2 μ-loop2 Inv-loop μ-loop
 store-requires c κs = tt
 
 add-total : tie.Need-add-total Inv-loop2 μ-loop2 Inv-loop μ-loop
-add-total c = omega (arith, total-small (c .before .before .before .before .before .before .before .before .before .before .loop .inv .0))
+add-total c = omega (arith, total-small (outer (c .before .before .before .before .before .before .before) .loop .inv .0))
 
 add-b : tie.Need-add-b Inv-loop2 μ-loop2 Inv-loop μ-loop
-add-b c = omega (arith, stepped (c .before) .few, c .before .before .before .before .before .before .before .loop .inv .0 .short)
+add-b c = let j = c .before in omega (arith, stepped j .few, outer (inner j) .loop .inv .0 .short)
 
 mul-b : tie.Need-mul-b Inv-loop2 μ-loop2 Inv-loop μ-loop
-mul-b c = omega (arith, stepped (c .before) .few, c .before .before .before .before .before .before .before .loop .inv .0 .short)
+mul-b c = let j = c .before in omega (arith, stepped j .few, outer (inner j) .loop .inv .0 .short)
 
 shared-slice-read-b : tie.Need-shared-slice-read-b Inv-loop2 μ-loop2 Inv-loop μ-loop
-shared-slice-read-b c = omega (arith, stepped (c .before .before) .few, kmps (c .before .before .before .before .before .before .before .before .before .before .before .before .before .pre) .room)
+shared-slice-read-b c = let j = c .before .before in omega (arith, stepped j .few, kmps (start (outer (inner j)) .pre) .room)
 
 cast-b : tie.Need-cast-b Inv-loop2 μ-loop2 Inv-loop μ-loop
-cast-b c = omega (arith, moved c .most, stepped (c .before .before) .few, c .before .before .before .before .before .before .before .before .loop .inv .0 .short)
+cast-b c = let j = c .before .before in omega (arith, moved c .most, stepped j .few, outer (inner j) .loop .inv .0 .short)
 
 add-s-3 : tie.Need-add-s-3 Inv-loop2 μ-loop2 Inv-loop μ-loop
-add-s-3 c = omega (arith, stepped (c .before .before) .few, c .before .before .before .before .before .before .before .before .loop .inv .0 .short)
+add-s-3 c = let j = c .before .before in omega (arith, stepped j .few, outer (inner j) .loop .inv .0 .short)
 
 sub-s : tie.Need-sub-s Inv-loop2 μ-loop2 Inv-loop μ-loop
 sub-s c = omega (arith, moved c .most)
 
 add-s-4 : tie.Need-add-s-4 Inv-loop2 μ-loop2 Inv-loop μ-loop
-add-s-4 c = let p = c .before .before .before .before .before .before .before .before .loop .inv .0 in omega (arith, stepped (c .before .before) .few, p .short, p .small)
+add-s-4 c = let j = c .before .before in let p = outer (inner j) .loop .inv .0 in omega (arith, stepped j .few, p .short, p .small)
 
 sub-q : tie.Need-sub-q Inv-loop2 μ-loop2 Inv-loop μ-loop
 sub-q c = omega arith
@@ -268,13 +247,21 @@ loop-less-2 : tie.Need-loop-less-2 Inv-loop2 μ-loop2 Inv-loop μ-loop
 loop-less-2 c = omega (arith, moved (c .before) .most)
 
 loop-again-2 : tie.Need-loop-again-2 Inv-loop2 μ-loop2 Inv-loop μ-loop
-loop-again-2 c = (moves-on (c .before) _ refl, (omega (arith, moved (c .before) .most, stepped (c .before .before .before) .few), stepped (c .before .before .before) .under))
+loop-again-2 c =
+    let j = c .before .before .before in
+    let d = stepped j in
+    let m = moved (c .before) in
+    (kmp-goes (outer (inner j) .loop .s) (j .if5 .k) (d .progress) m refl, (omega (arith, m .most, d .few), d .under))
 
 loop-less-3 : tie.Need-loop-less-3 Inv-loop2 μ-loop2 Inv-loop μ-loop
 loop-less-3 c = omega (arith, moved (c .before) .most)
 
 loop-again-3 : tie.Need-loop-again-3 Inv-loop2 μ-loop2 Inv-loop μ-loop
-loop-again-3 c = (moves-on (c .before) 0 (omega (arith, c .if7 .left)), (omega (arith, moved (c .before) .most, stepped (c .before .before .before) .few), stepped (c .before .before .before) .under))
+loop-again-3 c =
+    let j = c .before .before .before in
+    let d = stepped j in
+    let m = moved (c .before) in
+    (kmp-goes (outer (inner j) .loop .s) (j .if5 .k) (d .progress) m (omega (arith, c .if7 .left)), (omega (arith, m .most, d .few), d .under))
 
 same-length : tie.Need-same-length Inv-loop2 μ-loop2 Inv-loop μ-loop
 same-length c = same-list (c .before .loop .inv .0)
@@ -288,22 +275,23 @@ same-length-2 c = same-list (c .before .before .before .before .before .before .
 returns-2 : tie.Need-returns-2 Inv-loop2 μ-loop2 Inv-loop μ-loop
 returns-2 c =
     let l = c .before .before .before .before .before .before in
-    let a = l .before .before .before .before .before .args in
-    searched-all (stopped (rw (sunday-stop (a .pattern .now) (a .text .now) (l .loop .s) (c .if3 .taken)) at (end-differs (l .loop .inv .0) (omega arith) (c .before .before .before .before .if1 .taken) (c .before .if2 .taken)))) (l .loop .inv .1 .1)
+    let p = end-differs (l .loop .inv .0) (omega arith) (c .before .before .before .before .if1 .taken) (c .before .if2 .taken) in
+    searched-all (sunday-over (l .loop .s) p (c .if3 .taken)) (l .loop .inv .1 .1)
 
 same-length-3 : tie.Need-same-length-3 Inv-loop2 μ-loop2 Inv-loop μ-loop
-same-length-3 c = let l = c .before .before .before .before .before .before .before .before .before .before .before in ap length (c .before .before .before .store .ensures) ∙ simp length-set (same-list (l .loop .inv .0))
+same-length-3 c =
+    let v = c .before .before .before in
+    ap length (v .store .ensures) ∙ simp length-set (same-list (outer (v .before .before .before .before .before) .loop .inv .0))
 
 returns-3 : tie.Need-returns-3 Inv-loop2 μ-loop2 Inv-loop μ-loop
 returns-3 c =
-    let i = c .before .before .before .before .before .before .before .before in
-    let l = i .before .before .before in
-    let p = l .loop .inv .0 in
+    let v = c .before .before .before in
+    let i = v .before .before .before .before .before in
+    let p = outer i .loop .inv .0 in
     let h = within (i .before .before) in
     let g = begun (i .before) in
-    let inv = i .loop2 .inv in
-    let all : i .loop2 .k ≡ i .before .if1 .until = omega (arith, c .before .before .before .before .before .if5 .left, inv .1 .1) in
-    searched-one (same-length-3 c) (c .if6 .taken) (hit-more p h g (i .loop2 .k) (inv .0) (inv .1 .0) all) (hit-place p h g (i .loop2 .k) (inv .0) (inv .1 .0) all)
+    let all = v .before .before .if5 .left in
+    searched-one (same-length-3 c) (c .if6 .taken) (hit-more p h g (i .loop2 .inv) all) (hit-place p h g (i .loop2 .inv) all)
 
 pub search-spec : {M : Type 1} → statement M
 search-spec =

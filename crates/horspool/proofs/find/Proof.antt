@@ -1,68 +1,79 @@
 -- `horspool::find` meets its contract. The loop's invariant is the run's progress (`matching`), with the table by its rule (`letter_tables`). Assumes nothing.
 use borrow.Author.Needs.{needs}
-use mathlib.Core.Path.{_≡_, refl, sym, _∙_}
+use mathlib.Core.Path.{refl}
 use mathlib.Core.Logic.{⊎-elim}
-use Prim.Native.Nat.{_+_, _-_, _≤_}
+use Prim.Native.Nat.{ℕ, _+_, _-_, _≤_, _<_}
 use native.Mathlib.Omega.{arith}
+use mathlib.Core.List.{List}
 use lib.ListN.{length, getD}
-use Rattle.matching.specs.Letters.{equalDown}
 use Rattle.matching.specs.Machine.{at}
-use Rattle.matching.proofs.Letters.{down-le, comparedDown-is}
-use Rattle.matching.proofs.Find.{within, found-refused}
-use Rattle.matching.proofs.Progress.{Progress, begins, hit-down, miss-down, total-small, compared-small, same-list, past, keeps}
+use Rattle.matching.proofs.Letters.{Downward, down-compared}
+use Rattle.matching.proofs.Find.{found-refused}
+use Rattle.matching.proofs.Progress.{Accepted, accepted, Progress, begins, hit-down, miss-down, total-small, compared-small, same-list, past, keeps}
+use Rattle.tables.proofs.Tables.{Entries, Filled, Reads}
 use Rattle.letter_tables.specs.BadCharacter.{horspoolEntry}
 use Rattle.letter_tables.specs.Moves.{horspoolMove}
-use Rattle.tables.proofs.Tables.{Entries, Reads, made-entries, made-by}
-use Rattle.letter_tables.proofs.BadCharacter.{horspool-reads}
-use Rattle.letter_tables.proofs.Moves.{horspool-next}
+use Rattle.letter_tables.proofs.BadCharacter.{horspool-filled, horspool-reads}
+use Rattle.letter_tables.proofs.Moves.{horspool-goes}
 use Rattle.horspool.specs.Horspool.{window, horspool}
 use Rattle.horspool.proofs.Sound.{sound}
 use Rattle.horspool.proofs.find.Statement.{statement}
 use Rattle.horspool.proofs.find.Tie as tie
 
 abbrev Inv-loop : tie.InvT-loop
-Inv-loop pattern text scratch list₀ m n refusal end total₀ compared₀ s₀ list total compared s = Progress horspool pattern text list₀ (at s 0) total compared list × ((s ≤ length text) × Entries 256 (horspoolEntry pattern) scratch)
+Inv-loop pattern text scratch list₀ m n refusal end total₀ compared₀ s₀ list total compared s =
+    Progress horspool pattern text list₀ (at s 0) total compared list × ((s ≤ length text) × Entries 0 256 (horspoolEntry pattern) scratch)
 
 abbrev μ-loop : tie.MeasureT-loop
 μ-loop pattern text scratch list₀ m n refusal end total₀ compared₀ s₀ list total compared s = length text + 1 - s
 
--- the comparing passed k letters
-passed : (c : tie.After-compare-down Inv-loop μ-loop)
-    → let l = c .before .before in let a = l .before .before .before .before .before .before .before .before .before .before .before .args in
-    c .compare-down .result ≡ equalDown (a .pattern .now) (a .text .now) (l .loop .s) (length (a .pattern .now))
-passed c = let l = c .before .before in c .compare-down .ensures ∙ comparedDown-is _ _ (l .loop .s) _ (omega arith) (omega arith)
+-- the call, from where it is not refused; the maker's call, from the loop; the pattern and the text
+abbrev call : tie.Else1 Inv-loop μ-loop → tie.Start Inv-loop μ-loop
+call e = e .before .before .before .before .before .before
 
-passed-le : (c : tie.After-compare-down Inv-loop μ-loop) → c .compare-down .result ≤ length (c .before .before .before .before .before .before .before .before .before .before .before .before .before .args .pattern .now)
-passed-le c =
-    let l = c .before .before in
-    let a = l .before .before .before .before .before .before .before .before .before .before .before .args in
-    omega (arith, passed c, down-le (a .pattern .now) (a .text .now) (l .loop .s) (length (a .pattern .now)))
+abbrev maker : tie.At-loop Inv-loop μ-loop → tie.After-horspool-table Inv-loop μ-loop
+maker l = l .before .before .before
+
+abbrev P : tie.At-loop Inv-loop μ-loop → List ℕ
+P l = call (maker l .before .before) .args .pattern .now
+
+abbrev T : tie.At-loop Inv-loop μ-loop → List ℕ
+T l = call (maker l .before .before) .args .text .now
+
+-- the call is not refused, and its table is made
+allowed : (e : tie.Else1 Inv-loop μ-loop) → let a = call e .args in Accepted horspool (a .pattern .now) (a .text .now) (a .scratch .now)
+allowed e = accepted (e .before .refused .ensures) (e .if1 .left)
+
+filled : (t : tie.After-horspool-table Inv-loop μ-loop) → let a = call (t .before .before) .args in Filled 256 (horspoolEntry (a .pattern .now)) (a .scratch .now) (t .horspool-table .last .1 .0)
+filled t = let g = allowed (t .before .before) .limits in horspool-filled (call (t .before .before) .args .pattern .now) (g .room) (g .short) (t .horspool-table .ensures)
+
+-- the comparing passed k letters
+passed : (c : tie.After-compare-down Inv-loop μ-loop) → let l = c .before .before in Downward (P l) (T l) (l .loop .s) (length (P l)) (c .compare-down .result)
+passed c = down-compared (c .compare-down .ensures) (omega arith) (omega arith)
 
 -- one window done, whether it reports or not
 stepped : (j : tie.Joined2 Inv-loop μ-loop)
-    → let l = j .before .before .before in let a = l .before .before .before .before .before .before .before .before .before .before .before .args in
-    Progress horspool (a .pattern .now) (a .text .now) (a .list .now) (horspoolMove (a .pattern .now) (a .text .now) (l .loop .s)) (j .if2 .total) (j .if2 .compared) (j .if2 .list)
+    → let l = j .before .before .before in
+    Progress horspool (P l) (T l) (call (maker l .before .before) .args .list .now) (horspoolMove (P l) (T l) (l .loop .s)) (j .if2 .total) (j .if2 .compared) (j .if2 .list)
 unfolding window
 stepped j =
-    let l = j .before .before .before in
-    let m = length (l .before .before .before .before .before .before .before .before .before .before .before .args .pattern .now) in
-    let p = l .loop .inv .0 in
-    let is = passed (j .before) in
+    let p = j .before .before .before .loop .inv .0 in
+    let d = passed (j .before) in
     ⊎-elim
-    (λ w. rw (w .1, w .2, w .3) (miss-down p (omega arith) m refl is (omega (arith, w .0 .taken)) (omega arith)))
-    (λ w. rw (w .5, w .6, w .7, w .2 .ensures) (hit-down p (omega arith) m refl is (omega (arith, w .0 .left, passed-le (j .before))) (omega arith)))
+    (λ w. rw (w .1, w .2, w .3) (miss-down p (omega arith) refl d (w .0 .taken) (omega arith)))
+    (λ w. rw (w .5, w .6, w .7, w .2 .ensures) (hit-down p (omega arith) refl d (w .0 .left) (omega arith)))
     (j .if2 .came)
 
--- the move: the table's entry of the letter under the pattern's end
+-- the letter under the pattern's end, and the move by its entry
+byte : (c : tie.After-shared-slice-known3 Inv-loop μ-loop) → let l = c .before .before .before .before in getD (T l) (l .loop .s + (length (P l) - 1)) 0 < 256
+byte c = let l = c .before .before .before .before in omega (arith, c .shared-slice-known3 .given (l .loop .s + (length (P l) - 1)))
+
 moved : (c : tie.After-slice-known5 Inv-loop μ-loop)
-    → let l = c .before .before .before .before .before in let a = l .before .before .before .before .before .before .before .before .before .before .before .args in
-    let u = getD (a .text .now) (l .loop .s + (length (a .pattern .now) - 1)) 0 in
-    Reads (getD (l .before .before .before .horspool-table .last .1 .0) u 0) (horspoolEntry (a .pattern .now) u) 1 (length (a .pattern .now))
+    → let l = c .before .before .before .before .before in let u = getD (T l) (l .loop .s + (length (P l) - 1)) 0 in
+    Reads (getD (maker l .horspool-table .last .1 .0) u 0) (horspoolEntry (P l) u) 1 (length (P l))
 moved c =
     let l = c .before .before .before .before .before in
-    let a = l .before .before .before .before .before .before .before .before .before .before .before .args in
-    let byte = c .before .shared-slice-known3 .given (l .loop .s + (length (a .pattern .now) - 1)) in
-    horspool-reads (a .pattern .now) _ (l .loop .inv .0 .sound .some) (l .loop .inv .1 .1) (omega arith)
+    horspool-reads (P l) (getD (T l) (l .loop .s + (length (P l) - 1)) 0) (l .loop .inv .0 .sound .some) (l .loop .inv .1 .1) (byte (c .before))
 
 refused-requires : tie.Need-refused-requires Inv-loop μ-loop
 refused-requires c κs = omega arith
@@ -74,15 +85,13 @@ horspool-table-requires : tie.Need-horspool-table-requires Inv-loop μ-loop
 horspool-table-requires c κs = tt
 
 sub-end : tie.Need-sub-end Inv-loop μ-loop
-sub-end c = let e = c .before .before .before .before in within _ _ _ _ (sym (e .before .refused .ensures) ∙ e .if1 .left) .some
+sub-end c = allowed (c .before .before .before .before) .limits .some
 
 loop-holds : tie.Need-loop-holds Inv-loop μ-loop
 loop-holds c =
-    let e = c .before .before .before .before in
-    let a = e .before .before .before .before .before .before .args in
-    let none = sym (e .before .refused .ensures) ∙ e .if1 .left in
-    let limits = within _ _ _ _ none in
-    (begins horspool (a .pattern .now) (a .text .now) (a .scratch .now) (a .list .now) none (sound (a .pattern .now) (a .text .now)), (omega arith, made-entries (length (a .pattern .now)) 256 (horspoolEntry (a .pattern .now)) (a .scratch .now) (limits .room) (omega (arith, limits .short)) (c .before .before .horspool-table .ensures)))
+    let t = c .before .before in
+    let a = call (t .before .before) .args in
+    (begins (allowed (t .before .before) .limits) (sound (a .pattern .now) (a .text .now)), (omega arith, filled t .entries))
 
 add-loop : tie.Need-add-loop Inv-loop μ-loop
 add-loop c = omega (arith, c .loop .inv .0 .short, c .loop .inv .0 .small)
@@ -91,19 +100,19 @@ compare-down-requires : tie.Need-compare-down-requires Inv-loop μ-loop
 compare-down-requires c κs = tt
 
 add-compared : tie.Need-add-compared Inv-loop μ-loop
-add-compared c = let p = c .before .before .loop .inv .0 in omega (arith, compared-small p, passed-le c, p .short)
+add-compared c = let p = c .before .before .loop .inv .0 in omega (arith, compared-small p, passed c .upto, p .short)
 
 add-compared-2 : tie.Need-add-compared-2 Inv-loop μ-loop
-add-compared-2 c = let p = c .before .before .before .loop .inv .0 in omega (arith, compared-small p, passed-le (c .before), p .short)
+add-compared-2 c = let p = c .before .before .before .loop .inv .0 in omega (arith, compared-small p, passed (c .before) .upto, p .short)
 
 cast-store : tie.Need-cast-store Inv-loop μ-loop
-cast-store c = let p = c .before .before .before .before .loop .inv .0 in omega (arith, p .small)
+cast-store c = omega (arith, c .before .before .before .before .loop .inv .0 .small)
 
 store-requires : tie.Need-store-requires Inv-loop μ-loop
 store-requires c κs = tt
 
 add-total : tie.Need-add-total Inv-loop μ-loop
-add-total c = let p = c .before .before .before .before .before .before .before .loop .inv .0 in omega (arith, total-small p)
+add-total c = omega (arith, total-small (c .before .before .before .before .before .before .before .loop .inv .0))
 
 add-s : tie.Need-add-s Inv-loop μ-loop
 add-s c = omega (arith, c .before .before .before .loop .inv .0 .small)
@@ -112,22 +121,13 @@ shared-slice-read-s : tie.Need-shared-slice-read-s Inv-loop μ-loop
 shared-slice-read-s c = omega (arith, c .before .before .before .before .loop .inv .0 .sound .some)
 
 cast-s : tie.Need-cast-s Inv-loop μ-loop
-cast-s c =
-    let l = c .before .before .before .before in
-    let a = l .before .before .before .before .before .before .before .before .before .before .before .args in
-    omega (arith, c .shared-slice-known3 .given (l .loop .s + (length (a .pattern .now) - 1)))
+cast-s c = omega (arith, byte c)
 
 mul-s : tie.Need-mul-s Inv-loop μ-loop
-mul-s c =
-    let l = c .before .before .before .before in
-    let a = l .before .before .before .before .before .before .before .before .before .before .before .args in
-    omega (arith, c .shared-slice-known3 .given (l .loop .s + (length (a .pattern .now) - 1)))
+mul-s c = omega (arith, byte c)
 
 slice-read-s : tie.Need-slice-read-s Inv-loop μ-loop
-slice-read-s c =
-    let l = c .before .before .before .before .before in
-    let a = l .before .before .before .before .before .before .before .before .before .before .before .args in
-    omega (arith, c .before .shared-slice-known3 .given (l .loop .s + (length (a .pattern .now) - 1)), l .loop .inv .1 .1 .room)
+slice-read-s c = omega (arith, byte (c .before), c .before .before .before .before .before .loop .inv .1 .1 .room)
 
 cast-s-2 : tie.Need-cast-s-2 Inv-loop μ-loop
 cast-s-2 c = omega (arith, moved c .most, c .before .before .before .before .before .loop .inv .0 .short)
@@ -141,9 +141,8 @@ loop-less c = omega (arith, moved c .least)
 loop-again : tie.Need-loop-again Inv-loop μ-loop
 loop-again c =
     let l = c .before .before .before .before .before in
-    let a = l .before .before .before .before .before .before .before .before .before .before .before .args in
     let m = moved c in
-    (rw (horspool-next (a .pattern .now) (a .text .now) (l .loop .s) _ (m .is)) at (stepped (c .before .before)), (omega (arith, m .most), l .loop .inv .1 .1))
+    (horspool-goes (l .loop .s) (stepped (c .before .before)) m, (omega (arith, m .most), l .loop .inv .1 .1))
 
 cast-found : tie.Need-cast-found Inv-loop μ-loop
 cast-found c = omega (arith, total-small (c .before .loop .inv .0))
@@ -158,14 +157,7 @@ same-length-2 : tie.Need-same-length-2 Inv-loop μ-loop
 same-length-2 c = same-list (c .before .loop .inv .0)
 
 returns-2 : tie.Need-returns-2 Inv-loop μ-loop
-returns-2 c =
-    let l = c .before in
-    let e = l .before .before .before .before .before in
-    let a = e .before .before .before .before .before .before .args in
-    let none = sym (e .before .refused .ensures) ∙ e .if1 .left in
-    let limits = within _ _ _ _ none in
-    keeps (past (l .loop .inv .0) (c .loop-test .left)) none
-    (l .before .before .before .horspool-table .ensures ∙ made-by (length (a .pattern .now)) 256 (horspoolEntry (a .pattern .now)) (a .scratch .now) (limits .room) (omega (arith, limits .short)))
+returns-2 c = let t = maker (c .before) in keeps (past (c .before .loop .inv .0) (c .loop-test .left)) (allowed (t .before .before) .none) (filled t .left)
 
 pub find-spec : {M : Type 1} → statement M
 find-spec =

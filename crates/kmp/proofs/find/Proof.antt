@@ -8,31 +8,57 @@ use native.Mathlib.Omega.{arith}
 use mathlib.Core.List.{List}
 use lib.ListN.{length, getD}
 use Rattle.matching.specs.Letters.{reach}
-use Rattle.matching.specs.Machine.{at}
-use Rattle.matching.proofs.Letters.{reach-equal, reach-unequal, reach-done, reach-first, reach-nothing}
-use Rattle.matching.proofs.Find.{within, found-refused}
-use Rattle.matching.proofs.Progress.{Progress, begins, hit-up, miss-up, total-small, compared-small, same-list, past, keeps}
+use Rattle.matching.specs.Machine.{at, firstToLast}
+use Rattle.matching.proofs.Letters.{reach-nothing, Upward, up-none, up-first, up-next, up-stops, up-ends}
+use Rattle.matching.proofs.Find.{found-refused}
+use Rattle.matching.proofs.Progress.{Accepted, accepted, Progress, begins, hit-up, miss-up, total-small, compared-small, same-list, past, keeps}
+use Rattle.tables.proofs.Tables.{Entries, Filled, Reads}
 use Rattle.border_tables.specs.Kmp.{kmpEntry}
 use Rattle.border_tables.specs.Moves.{kmpMove}
-use Rattle.tables.proofs.Tables.{Entries, Reads, made-entries, made-by}
-use Rattle.border_tables.proofs.Kmp.{kmpEntry-le, kmp-reads}
-use Rattle.border_tables.proofs.Moves.{kmp-next}
+use Rattle.border_tables.proofs.Kmp.{kmpEntry-le, kmp-filled, kmp-reads}
+use Rattle.border_tables.proofs.Moves.{kmp-next, kmp-goes}
 use Rattle.kmp.specs.Kmp.{window, kmp}
 use Rattle.kmp.proofs.Sound.{sound}
 use Rattle.kmp.proofs.find.Statement.{statement}
 use Rattle.kmp.proofs.find.Tie as tie
 
 abbrev Inv-loop2 : tie.InvT-loop2
-Inv-loop2 pattern text scratch list m n refusal total compared s q k₀ k = (reach pattern text s k ≡ reach pattern text s q) × ((q ≤ k) × (k ≤ length pattern))
+Inv-loop2 pattern text scratch list m n refusal total compared s q k₀ k = Upward pattern text s q (length pattern) k
 
 abbrev μ-loop2 : tie.MeasureT-loop2
 μ-loop2 pattern text scratch list m n refusal total compared s q k₀ k = length pattern - k
 
 abbrev Inv-loop : tie.InvT-loop
-Inv-loop pattern text scratch list₀ m n refusal total₀ compared₀ s₀ q₀ list total compared s q = Progress kmp pattern text list₀ (at s q) total compared list × ((s ≤ length text + 1) × Entries (length pattern + 1) (kmpEntry pattern) scratch)
+Inv-loop pattern text scratch list₀ m n refusal total₀ compared₀ s₀ q₀ list total compared s q =
+    Progress kmp pattern text list₀ (at s q) total compared list × ((s ≤ length text + 1) × Entries 0 (length pattern + 1) (kmpEntry pattern) scratch)
 
 abbrev μ-loop : tie.MeasureT-loop
 μ-loop pattern text scratch list₀ m n refusal total₀ compared₀ s₀ q₀ list total compared s q = length text + 1 - s
+
+-- the call, from where it is not refused; the maker's call, from the loop; the pattern and the text
+abbrev call : tie.Else1 Inv-loop2 μ-loop2 Inv-loop μ-loop → tie.Start Inv-loop2 μ-loop2 Inv-loop μ-loop
+call e = e .before .before .before .before .before .before
+
+abbrev maker : tie.At-loop Inv-loop2 μ-loop2 Inv-loop μ-loop → tie.After-kmp-table Inv-loop2 μ-loop2 Inv-loop μ-loop
+maker l = l .before .before .before
+
+abbrev P : tie.At-loop Inv-loop2 μ-loop2 Inv-loop μ-loop → List ℕ
+P l = call (maker l .before .before) .args .pattern .now
+
+abbrev T : tie.At-loop Inv-loop2 μ-loop2 Inv-loop μ-loop → List ℕ
+T l = call (maker l .before .before) .args .text .now
+
+-- from the inner loop, the window's loop
+abbrev outer : tie.At-loop2 Inv-loop2 μ-loop2 Inv-loop μ-loop → tie.At-loop Inv-loop2 μ-loop2 Inv-loop μ-loop
+outer i = i .before .before .before
+
+-- the call is not refused, and its table is made
+allowed : (e : tie.Else1 Inv-loop2 μ-loop2 Inv-loop μ-loop) → let a = call e .args in Accepted kmp (a .pattern .now) (a .text .now) (a .scratch .now)
+allowed e = accepted (e .before .refused .ensures) (e .if1 .left)
+
+filled : (t : tie.After-kmp-table Inv-loop2 μ-loop2 Inv-loop μ-loop)
+    → let a = call (t .before .before) .args in Filled (length (a .pattern .now) + 1) (kmpEntry (a .pattern .now)) (a .scratch .now) (t .kmp-table .last .1 .0)
+filled t = let g = allowed (t .before .before) .limits in kmp-filled (call (t .before .before) .args .pattern .now) (g .room) (g .short) (t .kmp-table .ensures)
 
 -- nothing is carried and the first letter differs: one look, and the window moves on by 1, since b[1] is 0
 first-differs : {P T list₀ : List ℕ} {s q total compared : ℕ} {list : List ℕ} → Progress kmp P T list₀ (at s q) total compared list → s + length P ≤ length T → q ≡ 0
@@ -44,59 +70,30 @@ first-differs {P} {T} {list₀} {s} {q} {total} {compared} {list} p inside zero 
     miss-up p inside (rw (kmp-next P s (reach P T s q) 0 (s + 1) q (omega (arith, kmpEntry-le P (reach P T s q))) (omega arith) (omega arith))) (sym none) some (omega arith)
 
 -- as many letters are equal as were reached
-reached : (d : tie.Left-loop2 Inv-loop2 μ-loop2 Inv-loop μ-loop)
-    → let l = d .before .before .before .before in let a = l .before .before .before .before .before .before .before .before .before .before .before .args in
-    d .before .loop2 .k ≡ reach (a .pattern .now) (a .text .now) (l .loop .s) (l .loop .q)
-reached d =
-    let i = d .before in
-    let l = i .before .before .before in
-    let a = l .before .before .before .before .before .before .before .before .before .before .before .args in
-    let P = a .pattern .now in
-    let T = a .text .now in
-    ⊎-elim
-    (λ w. sym (reach-done P T (l .loop .s) (i .loop2 .k) (w .left)) ∙ i .loop2 .inv .0)
-    (λ w. sym (reach-unequal P T (l .loop .s) (i .loop2 .k) (w .0 .taken) (omega (arith, w .0 .taken)) (w .4 .taken)) ∙ i .loop2 .inv .0)
-    (d .loop2-test .came)
+reached : (d : tie.Left-loop2 Inv-loop2 μ-loop2 Inv-loop μ-loop) → let i = d .before in let l = outer i in i .loop2 .k ≡ reach (P l) (T l) (l .loop .s) (l .loop .q)
+reached d = let u = d .before .loop2 .inv in ⊎-elim (λ w. up-ends u (omega arith) (w .left)) (λ w. up-stops u (omega arith) (w .0 .taken) (w .4 .taken)) (d .loop2-test .came)
 
 -- one window done, whether it reports or not
 stepped : (j : tie.Joined5 Inv-loop2 μ-loop2 Inv-loop μ-loop)
-    → let l = j .before .before .before .before .before .before in let a = l .before .before .before .before .before .before .before .before .before .before .before .args in
-    Progress kmp (a .pattern .now) (a .text .now) (a .list .now) (kmpMove (a .pattern .now) (l .loop .s) (j .before .before .before .loop2 .k)) (j .if5 .total) (j .if5 .compared) (j .if5 .list)
+    → let i = j .before .before .before in let l = outer i in
+    Progress kmp (P l) (T l) (call (maker l .before .before) .args .list .now) (kmpMove (P l) (l .loop .s) (i .loop2 .k)) (j .if5 .total) (j .if5 .compared) (j .if5 .list)
 unfolding window
 stepped j =
     let i = j .before .before .before in
-    let l = i .before .before .before in
-    let a = l .before .before .before .before .before .before .before .before .before .before .before .args in
+    let l = outer i in
     let p = l .loop .inv .0 in
+    let u = i .loop2 .inv in
     let is = reached (j .before .before) in
-    rw is
-    (⊎-elim
-    (λ w. rw (w .1, w .2, w .3) (miss-up p (omega arith) refl is (w .0 .taken) (omega (arith, i .loop2 .inv .1 .0))))
-    (λ w. rw (w .5, w .6, w .7, w .2 .ensures) (hit-up p (omega arith) refl is (omega (arith, w .0 .left, i .loop2 .inv .1 .1)) (omega (arith, i .loop2 .inv .1 .0))))
-    (j .if5 .came))
+    let v = ap (λ (r : ℕ). firstToLast (P l) (T l) (l .loop .s) (l .loop .q) (kmpMove (P l) (l .loop .s) r)) (sym is) in
+    ⊎-elim
+    (λ w. rw (w .1, w .2, w .3) (miss-up p (omega arith) v is (w .0 .taken) (omega (arith, u .from))))
+    (λ w. rw (w .5, w .6, w .7, w .2 .ensures) (hit-up p (omega arith) v is (omega (arith, w .0 .left, u .upto)) (omega (arith, u .from))))
+    (j .if5 .came)
 
 -- the move: b[j] for the j that was reached
 moved : (c : tie.After-slice-known5 Inv-loop2 μ-loop2 Inv-loop μ-loop)
-    → let i = c .before .before .before .before in let l = i .before .before .before in let a = l .before .before .before .before .before .before .before .before .before .before .before .args in
-    Reads (getD (l .before .before .before .kmp-table .last .1 .0) (i .loop2 .k) 0) (kmpEntry (a .pattern .now) (i .loop2 .k)) 0 (i .loop2 .k)
-moved c =
-    let i = c .before .before .before .before in
-    let l = i .before .before .before in
-    let a = l .before .before .before .before .before .before .before .before .before .before .before .args in
-    kmp-reads (a .pattern .now) _ (l .loop .inv .1 .1) (i .loop2 .inv .1 .1)
-
--- and the state after it
-moves-on : (c : tie.After-slice-known5 Inv-loop2 μ-loop2 Inv-loop μ-loop) (q′ : ℕ)
-    → let j = c .before in let k = j .before .before .before .loop2 .k in let l = j .before .before .before .before .before .before in let a = l .before .before .before .before .before .before .before .before .before .before .before .args in
-    let b = getD (l .before .before .before .kmp-table .last .1 .0) k 0 in q′ ≡ b - 1
-    → Progress kmp (a .pattern .now) (a .text .now) (a .list .now) (at (l .loop .s + (k + 1 - b)) q′) (j .if5 .total) (j .if5 .compared) (j .if5 .list)
-moves-on c q′ e =
-    let i = c .before .before .before .before in
-    let l = i .before .before .before in
-    let a = l .before .before .before .before .before .before .before .before .before .before .before .args in
-    let b = getD (l .before .before .before .kmp-table .last .1 .0) (i .loop2 .k) 0 in
-    let m = moved c in
-    rw (kmp-next (a .pattern .now) (l .loop .s) (i .loop2 .k) b (l .loop .s + (i .loop2 .k + 1 - b)) q′ (m .is) (omega (arith, m .most)) e) at (stepped (c .before))
+    → let i = c .before .before .before .before in let l = outer i in Reads (getD (maker l .kmp-table .last .1 .0) (i .loop2 .k) 0) (kmpEntry (P l) (i .loop2 .k)) 0 (i .loop2 .k)
+moved c = let i = c .before .before .before .before in let l = outer i in kmp-reads (P l) (l .loop .inv .1 .1) (i .loop2 .inv .upto) (omega arith)
 
 add-refused : tie.Need-add-refused Inv-loop2 μ-loop2 Inv-loop μ-loop
 add-refused c = omega arith
@@ -112,11 +109,9 @@ kmp-table-requires c κs = tt
 
 loop-holds : tie.Need-loop-holds Inv-loop2 μ-loop2 Inv-loop μ-loop
 loop-holds c =
-    let e = c .before .before .before .before in
-    let a = e .before .before .before .before .before .before .args in
-    let none = sym (e .before .refused .ensures) ∙ e .if1 .left in
-    let limits = within _ _ _ _ none in
-    (begins kmp (a .pattern .now) (a .text .now) (a .scratch .now) (a .list .now) none (sound (a .pattern .now) (a .text .now)), (omega arith, made-entries (length (a .pattern .now)) (length (a .pattern .now) + 1) (kmpEntry (a .pattern .now)) (a .scratch .now) (limits .room) (omega (arith, limits .short)) (c .before .before .kmp-table .ensures)))
+    let t = c .before .before in
+    let a = call (t .before .before) .args in
+    (begins (allowed (t .before .before) .limits) (sound (a .pattern .now) (a .text .now)), (omega arith, filled t .entries))
 
 add-loop : tie.Need-add-loop Inv-loop2 μ-loop2 Inv-loop μ-loop
 add-loop c = omega (arith, c .loop .inv .0 .short, c .loop .inv .0 .small)
@@ -128,10 +123,10 @@ shared-slice-read-if3-2 : tie.Need-shared-slice-read-if3-2 Inv-loop2 μ-loop2 In
 shared-slice-read-if3-2 c = omega (arith, c .before .before .before .before .loop .inv .0 .sound .some)
 
 add-compared : tie.Need-add-compared Inv-loop2 μ-loop2 Inv-loop μ-loop
-add-compared c = let p = c .before .before .before .before .before .loop .inv .0 in omega (arith, compared-small p)
+add-compared c = omega (arith, compared-small (c .before .before .before .before .before .loop .inv .0))
 
 add-s : tie.Need-add-s Inv-loop2 μ-loop2 Inv-loop μ-loop
-add-s c = let p = c .before .before .before .before .before .loop .inv .0 in omega (arith, p .small)
+add-s c = omega (arith, c .before .before .before .before .before .loop .inv .0 .small)
 
 loop-less : tie.Need-loop-less Inv-loop2 μ-loop2 Inv-loop μ-loop
 loop-less c = omega arith
@@ -143,14 +138,10 @@ loop-again c =
 
 loop2-holds : tie.Need-loop2-holds Inv-loop2 μ-loop2 Inv-loop μ-loop
 loop2-holds c =
-    let l = c .before .before in
-    let a = l .before .before .before .before .before .before .before .before .before .before .before .args in
-    let P = a .pattern .now in
-    let T = a .text .now in
-    let p = l .loop .inv .0 in
+    let p = c .before .before .loop .inv .0 in
     ⊎-elim
-    (λ w. (ap (reach P T (l .loop .s)) (w .4) ∙ sym (reach-first P T (l .loop .s) (p .sound .some) (omega (arith, p .sound .some)) (w .3 .left)) ∙ ap (reach P T (l .loop .s)) (sym (w .0 .taken)), (omega (arith, w .0 .taken, w .4), omega (arith, w .4, p .sound .some))))
-    (λ w. (ap (reach P T (l .loop .s)) (w .1), (omega (arith, w .1), omega (arith, w .1, p .carried .part))))
+    (λ w. up-first (p .sound .some) (omega (arith, p .sound .some)) (w .0 .taken) (w .4) (w .3 .left))
+    (λ w. up-none (w .1) (omega (arith, p .carried .part)))
     (c .if2 .came)
 
 shared-slice-read-if4 : tie.Need-shared-slice-read-if4 Inv-loop2 μ-loop2 Inv-loop μ-loop
@@ -169,47 +160,43 @@ loop2-less : tie.Need-loop2-less Inv-loop2 μ-loop2 Inv-loop μ-loop
 loop2-less c = omega arith
 
 loop2-again : tie.Need-loop2-again Inv-loop2 μ-loop2 Inv-loop μ-loop
-loop2-again c =
-    let i = c .before .before .before .before .before in
-    let l = i .before .before .before in
-    let a = l .before .before .before .before .before .before .before .before .before .before .before .args in
-    (sym (reach-equal (a .pattern .now) (a .text .now) (l .loop .s) (i .loop2 .k) (omega arith) (omega arith) (c .if4 .left)) ∙ i .loop2 .inv .0, (omega arith, omega arith))
+loop2-again c = up-next (c .before .before .before .before .before .loop2 .inv) (omega arith) (omega arith) (omega arith) (c .if4 .left)
 
 sub-compared : tie.Need-sub-compared Inv-loop2 μ-loop2 Inv-loop μ-loop
-sub-compared c = omega (arith, c .before .before .loop2 .inv .1 .0)
+sub-compared c = omega (arith, c .before .before .loop2 .inv .from)
 
 add-compared-2 : tie.Need-add-compared-2 Inv-loop2 μ-loop2 Inv-loop μ-loop
-add-compared-2 c = let p = c .before .before .before .before .before .loop .inv .0 in omega (arith, compared-small p, c .before .before .loop2 .inv .1 .1, p .short)
+add-compared-2 c = let i = c .before .before in let p = outer i .loop .inv .0 in omega (arith, compared-small p, i .loop2 .inv .upto, p .short)
 
 add-compared-3 : tie.Need-add-compared-3 Inv-loop2 μ-loop2 Inv-loop μ-loop
-add-compared-3 c = let p = c .before .before .before .before .before .before .loop .inv .0 in omega (arith, compared-small p, c .before .before .before .loop2 .inv .1 .1, p .short)
+add-compared-3 c = let i = c .before .before .before in let p = outer i .loop .inv .0 in omega (arith, compared-small p, i .loop2 .inv .upto, p .short)
 
 cast-store : tie.Need-cast-store Inv-loop2 μ-loop2 Inv-loop μ-loop
-cast-store c = let p = c .before .before .before .before .before .before .before .loop .inv .0 in omega (arith, p .small)
+cast-store c = omega (arith, outer (c .before .before .before .before) .loop .inv .0 .small)
 
 store-requires : tie.Need-store-requires Inv-loop2 μ-loop2 Inv-loop μ-loop
 store-requires c κs = tt
 
 add-total : tie.Need-add-total Inv-loop2 μ-loop2 Inv-loop μ-loop
-add-total c = let p = c .before .before .before .before .before .before .before .before .before .before .loop .inv .0 in omega (arith, total-small p)
+add-total c = omega (arith, total-small (outer (c .before .before .before .before .before .before .before) .loop .inv .0))
 
 mul-b : tie.Need-mul-b Inv-loop2 μ-loop2 Inv-loop μ-loop
-mul-b c = omega (arith, c .before .before .before .loop2 .inv .1 .1)
+mul-b c = omega (arith, c .before .before .before .loop2 .inv .upto)
 
 slice-read-b : tie.Need-slice-read-b Inv-loop2 μ-loop2 Inv-loop μ-loop
-slice-read-b c = omega (arith, c .before .before .before .before .loop2 .inv .1 .1, c .before .before .before .before .before .before .before .loop .inv .1 .1 .room)
+slice-read-b c = let i = c .before .before .before .before in omega (arith, i .loop2 .inv .upto, outer i .loop .inv .1 .1 .room)
 
 cast-b : tie.Need-cast-b Inv-loop2 μ-loop2 Inv-loop μ-loop
-cast-b c = let p = c .before .before .before .before .before .before .before .loop .inv .0 in omega (arith, moved c .most, p .short, c .before .before .before .before .loop2 .inv .1 .1)
+cast-b c = let i = c .before .before .before .before in omega (arith, moved c .most, outer i .loop .inv .0 .short, i .loop2 .inv .upto)
 
 add-s-2 : tie.Need-add-s-2 Inv-loop2 μ-loop2 Inv-loop μ-loop
-add-s-2 c = let p = c .before .before .before .before .before .before .before .loop .inv .0 in omega (arith, p .short, c .before .before .before .before .loop2 .inv .1 .1)
+add-s-2 c = let i = c .before .before .before .before in omega (arith, outer i .loop .inv .0 .short, i .loop2 .inv .upto)
 
 sub-s : tie.Need-sub-s Inv-loop2 μ-loop2 Inv-loop μ-loop
 sub-s c = omega (arith, moved c .most)
 
 add-s-3 : tie.Need-add-s-3 Inv-loop2 μ-loop2 Inv-loop μ-loop
-add-s-3 c = let p = c .before .before .before .before .before .before .before .loop .inv .0 in omega (arith, p .short, p .small, c .before .before .before .before .loop2 .inv .1 .1)
+add-s-3 c = let i = c .before .before .before .before in let p = outer i .loop .inv .0 in omega (arith, p .short, p .small, i .loop2 .inv .upto)
 
 sub-q : tie.Need-sub-q Inv-loop2 μ-loop2 Inv-loop μ-loop
 sub-q c = omega arith
@@ -218,13 +205,21 @@ loop-less-2 : tie.Need-loop-less-2 Inv-loop2 μ-loop2 Inv-loop μ-loop
 loop-less-2 c = omega (arith, moved (c .before) .most)
 
 loop-again-2 : tie.Need-loop-again-2 Inv-loop2 μ-loop2 Inv-loop μ-loop
-loop-again-2 c = let l = c .before .before .before .before .before .before .before .before in (moves-on (c .before) _ refl, (omega (arith, moved (c .before) .most, c .before .before .before .before .before .loop2 .inv .1 .1), l .loop .inv .1 .1))
+loop-again-2 c =
+    let i = c .before .before .before .before .before in
+    let l = outer i in
+    let m = moved (c .before) in
+    (kmp-goes (l .loop .s) (i .loop2 .k) (stepped (c .before .before)) m refl, (omega (arith, m .most, i .loop2 .inv .upto), l .loop .inv .1 .1))
 
 loop-less-3 : tie.Need-loop-less-3 Inv-loop2 μ-loop2 Inv-loop μ-loop
 loop-less-3 c = omega (arith, moved (c .before) .most)
 
 loop-again-3 : tie.Need-loop-again-3 Inv-loop2 μ-loop2 Inv-loop μ-loop
-loop-again-3 c = let l = c .before .before .before .before .before .before .before .before in (moves-on (c .before) 0 (omega (arith, c .if6 .left)), (omega (arith, moved (c .before) .most, c .before .before .before .before .before .loop2 .inv .1 .1), l .loop .inv .1 .1))
+loop-again-3 c =
+    let i = c .before .before .before .before .before in
+    let l = outer i in
+    let m = moved (c .before) in
+    (kmp-goes (l .loop .s) (i .loop2 .k) (stepped (c .before .before)) m (omega (arith, c .if6 .left)), (omega (arith, m .most, i .loop2 .inv .upto), l .loop .inv .1 .1))
 
 cast-found : tie.Need-cast-found Inv-loop2 μ-loop2 Inv-loop μ-loop
 cast-found c = omega (arith, total-small (c .before .loop .inv .0))
@@ -239,14 +234,7 @@ same-length-2 : tie.Need-same-length-2 Inv-loop2 μ-loop2 Inv-loop μ-loop
 same-length-2 c = same-list (c .before .loop .inv .0)
 
 returns-2 : tie.Need-returns-2 Inv-loop2 μ-loop2 Inv-loop μ-loop
-returns-2 c =
-    let l = c .before in
-    let e = l .before .before .before .before .before in
-    let a = e .before .before .before .before .before .before .args in
-    let none = sym (e .before .refused .ensures) ∙ e .if1 .left in
-    let limits = within _ _ _ _ none in
-    keeps (past (l .loop .inv .0) (c .loop-test .left)) none
-    (l .before .before .before .kmp-table .ensures ∙ made-by (length (a .pattern .now)) (length (a .pattern .now) + 1) (kmpEntry (a .pattern .now)) (a .scratch .now) (limits .room) (omega (arith, limits .short)))
+returns-2 c = let t = maker (c .before) in keeps (past (c .before .loop .inv .0) (c .loop-test .left)) (allowed (t .before .before) .none) (filled t .left)
 
 pub find-spec : {M : Type 1} → statement M
 find-spec =

@@ -27,7 +27,9 @@ record Far (P far : List ℕ) : Type 0 where
 far-is : (P far : List ℕ) → far ≡ lastTable P (2 * length P) (length P) ++ drop 256 (replicate 256 0) → Far P far
 far-is P far e =
     record {
-      size = ap length e ∙ length-append (lastTable P (2 * length P) (length P)) (drop 256 (replicate 256 0)) ∙ omega (arith, length-tabulate 256 (λ c. 2 * length P - lastOf P c), length-drop {A = ℕ} 256 (replicate 256 0), length-replicate {A = ℕ} 256 0);
+      size =
+          ap length e ∙ length-append (lastTable P (2 * length P) (length P)) (drop 256 (replicate 256 0))
+          ∙ omega (arith, length-tabulate 256 (λ c. 2 * length P - lastOf P c), length-drop {A = ℕ} 256 (replicate 256 0), length-replicate {A = ℕ} 256 0);
       entry = λ c h. ap (λ (l : List ℕ). getD l c 0) e ∙ tabulate-at 256 (λ c. 2 * length P - lastOf P c) (drop 256 (replicate 256 0)) c h;
     }
 
@@ -167,7 +169,8 @@ same-length c = c .before .loop .inv .0 .long
 returns-3 : tie.Need-returns-3 Inv-loop μ-loop
 returns-3 c =
     let l = c .before in
-    let a = l .before .before .before .before .before .before .before .before .args in
+    let f = l .before .before in
+    let a = f .before .before .before .before .before .before .args in
     let P = a .pattern .now in
     let done : 256 * l .loop .u ≡ 65536 = omega arith in
     ruled-is (l .loop .inv .0) ∙ ap (λ (n : ℕ). tabulate n (entryAt P) ++ drop n (a .table .now)) done ∙ sym (made-by (2 * length P) 65536 (entryAt P) (a .table .now) (omega arith) (omega arith))
