@@ -81,8 +81,15 @@ Inv-loop pattern table₀ m q₀ j₀ table q j = Made pattern table₀ table q 
 abbrev μ-loop : tie.MeasureT-loop
 μ-loop pattern table₀ m q₀ j₀ table q j = 2 * (m - q) + j
 
+-- the loop, from the inner loop; the pattern, from the loop
+abbrev outer : tie.At-loop2 Inv-loop2 μ-loop2 Inv-loop μ-loop → tie.At-loop Inv-loop2 μ-loop2 Inv-loop μ-loop
+outer i = i .before .before .before
+
+abbrev P : tie.At-loop Inv-loop2 μ-loop2 Inv-loop μ-loop → List ℕ
+P l = l .before .before .before .args .pattern .now
+
 -- where the inner loop is left: at 0, or at a border with letter q + 1 after it
-ended : (c : tie.Left-loop2 Inv-loop2 μ-loop2 Inv-loop μ-loop) → Longest (c .before .before .before .before .before .before .before .args .pattern .now) (suc (c .before .before .before .before .loop .q)) (suc (c .before .loop2 .j))
+ended : (c : tie.Left-loop2 Inv-loop2 μ-loop2 Inv-loop μ-loop) → let i = c .before in let l = outer i in Longest (P l) (suc (l .loop .q)) (suc (i .loop2 .j))
 ended c = chain-ends _ _ _ (c .before .loop2 .inv .1) (⊎-elim (λ x h. absurd (omega arith)) (λ x _. x .2 .taken) (c .loop2-test .came))
 
 returns : tie.Need-returns Inv-loop2 μ-loop2 Inv-loop μ-loop
@@ -116,19 +123,19 @@ mul-j : tie.Need-mul-j Inv-loop2 μ-loop2 Inv-loop μ-loop
 mul-j c = omega (arith, c .before .before .before .loop2 .inv .1 .low)
 
 slice-read-j : tie.Need-slice-read-j Inv-loop2 μ-loop2 Inv-loop μ-loop
-slice-read-j c = let l = c .before .before .before .before in let m = l .before .before .before .loop .inv in omega (arith, l .loop2 .inv .1 .low, m .ruled .long, m .fits, m .low)
+slice-read-j c = let i = c .before .before .before .before in let m = outer i .loop .inv in omega (arith, i .loop2 .inv .1 .low, m .ruled .long, m .fits, m .low)
 
 cast-j : tie.Need-cast-j Inv-loop2 μ-loop2 Inv-loop μ-loop
 cast-j c = omega (arith, c .slice-known .given (c .before .before .before .before .loop2 .j - 1))
 
 loop2-less : tie.Need-loop2-less Inv-loop2 μ-loop2 Inv-loop μ-loop
-loop2-less c = let l = c .before .before .before .before in omega (arith, follow-less (l .before .before .before .loop .inv) (omega arith) (l .loop2 .inv .1))
+loop2-less c = let i = c .before .before .before .before in omega (arith, follow-less (outer i .loop .inv) (omega arith) (i .loop2 .inv .1))
 
 loop2-again : tie.Need-loop2-again Inv-loop2 μ-loop2 Inv-loop μ-loop
 loop2-again c =
-    let l = c .before .before .before .before in
-    let m = l .before .before .before .loop .inv in
-    let k = l .loop2 .inv .1 in
+    let i = c .before .before .before .before in
+    let m = outer i .loop .inv in
+    let k = i .loop2 .inv .1 in
     (omega (arith, follow-less m (omega arith) k), follow m (omega arith) k (omega arith) (c .before .if3 .left))
 
 add-q : tie.Need-add-q Inv-loop2 μ-loop2 Inv-loop μ-loop
@@ -156,7 +163,7 @@ mul-entry : tie.Need-mul-entry Inv-loop2 μ-loop2 Inv-loop μ-loop
 mul-entry c = omega arith
 
 slice-read-entry : tie.Need-slice-read-entry Inv-loop2 μ-loop2 Inv-loop μ-loop
-slice-read-entry c = let d = c .before .before .before .before in let m = d .before .before .before .before .before .loop .inv in omega (arith, m .ruled .long, m .fits)
+slice-read-entry c = let i = c .before .before .before .before .before .before in let m = outer i .loop .inv in omega (arith, m .ruled .long, m .fits)
 
 mul-table : tie.Need-mul-table Inv-loop2 μ-loop2 Inv-loop μ-loop
 mul-table c = omega arith
@@ -172,7 +179,7 @@ loop-again c =
     let o = c .before .before .before .before .before in
     let m = o .loop .inv in
     let e = c .if4 .entry in
-    let h : o .loop .q < length (o .before .before .before .args .pattern .now) = omega arith in
+    let h : o .loop .q < length (P o) = omega arith in
     let w = ended (c .before) in
     stored e m h w
     (⊎-elim (λ x. value-same e m h w (omega arith) (x .3 .taken) (x .5))

@@ -160,8 +160,13 @@ loop-again c =
     let l = c .before .before in
     let r = l .loop .inv .0 in
     let room = l .loop .inv .1 .1 .0 in
-    let f = l .loop .inv .1 .1 .1 in
-    (⊎-elim (λ w. rw (w .5) (row-in r (omega arith) room f _ (w .0 .taken) (w .2 .ensures))) (λ w. rw (w .6) (row-out r (omega arith) room f _ (w .0 .left) (w .3 .ensures))) (c .if3 .came), (omega arith, (room, f)))
+    let f = l .loop .inv .1 .1 .1 in (
+      ⊎-elim
+          (λ w. rw (w .5) (row-in r (omega arith) room f _ (w .0 .taken) (w .2 .ensures)))
+          (λ w. rw (w .6) (row-out r (omega arith) room f _ (w .0 .left) (w .3 .ensures)))
+          (c .if3 .came),
+      (omega arith, (room, f)),
+    )
 
 same-length : tie.Need-same-length Inv-loop μ-loop
 same-length c = c .before .loop .inv .0 .long
