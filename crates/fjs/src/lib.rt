@@ -3,10 +3,9 @@
 // Demand 3 is carried by proofs/Bound.antt (at most 3n - 2m comparisons) and proofs/Aba.antt (aba in n letters a costs 3n - 6).
 use matching::Finding;
 ghost use mathlib.Core.Path.{_≡_};
-ghost use mathlib.Core.List.{_++_};
 ghost use Prim.Native.Nat.{_+_, _-_, _*_, _≤_};
-ghost use lib.ListN.{length, drop};
-ghost use Rattle.matching.specs.Find.{Found};
+ghost use lib.ListN.{length};
+ghost use Rattle.matching.specs.Find.{withTables, Found};
 ghost use Rattle.fjs.specs.Fjs.{fjs};
 ghost use Rattle.fjs.specs.Nth.{Located};
 ghost use Rattle.fjs.specs.Search.{Ready, Searched};
@@ -28,7 +27,7 @@ struct Tally {
 // Makes both tables: the scratch's first 256 entries are lent to the Sunday maker and the part from 256 on to the KMP maker.
 fn make_tables(pattern: &[u8], scratch: &mut [u16])
     requires { ⌜ (length (now pattern) ≤ 1024) × (256 + (length (now pattern) + 1) ≤ length (now scratch)) ⌝ }
-    ensures { λ _. ⌜ now (scratch .exit) ≡ fjs .tables (now (pattern .entry)) ++ drop (256 + (length (now (pattern .entry)) + 1)) (now (scratch .entry)) ⌝ }
+    ensures { λ _. ⌜ now (scratch .exit) ≡ withTables fjs (now (pattern .entry)) (now (scratch .entry)) ⌝ }
 {
     letter_tables::sunday_table(pattern, &mut scratch[..256]);
     border_tables::kmp_table(pattern, &mut scratch[256..]);

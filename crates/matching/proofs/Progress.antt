@@ -6,14 +6,14 @@ use native.Mathlib.Omega.{arith}
 use native.Mathlib.Nat.{mul-le-mul}
 use mathlib.Core.Bool.{true, false, cond}
 use mathlib.Core.List.{List, [], _∷_, _++_, append-nil, append-assoc}
-use lib.ListN.{length, getD, set, drop, length-append}
+use lib.ListN.{length, getD, set, length-append}
 use lib.Seq.{getD-at}
 use borrow.Author.Tests.{eq-eqb, ne-eqb}
 use Rattle.matching.specs.Occurrences.{occurrences}
 use Rattle.matching.specs.Received.{received}
 use Rattle.matching.specs.Letters.{equalOn, reach, equalDown}
 use Rattle.matching.specs.Machine.{State, stop, at, Window, Steps, Visit, runFrom, run, comparedIn, positionsIn, firstToLast, lastToFirst}
-use Rattle.matching.specs.Find.{Engine, compared, refusalOf, Found}
+use Rattle.matching.specs.Find.{Engine, compared, refusalOf, withTables, Found}
 use Rattle.matching.proofs.Tests.{by-test}
 use Rattle.matching.proofs.Occurrences.{occurrences-few}
 use Rattle.matching.proofs.Received.{received-none, received-more, length-received}
@@ -225,7 +225,7 @@ module _ {e : Engine} {P T list₀ list : List ℕ} {total looked : ℕ} (o : Ov
   over-listed = o .progress .stored ∙ ap (received list₀) all-found
 
   -- and the find keeps its promise, if the scratch holds the tables
-  pub keeps : {scratch scratch′ : List ℕ} → refusalOf e P T scratch ≡ 0 → scratch′ ≡ e .tables P ++ drop (e .entries (length P)) scratch
+  pub keeps : {scratch scratch′ : List ℕ} → refusalOf e P T scratch ≡ 0 → scratch′ ≡ withTables e P scratch
       → Found e P T scratch list₀ (record { refusal = 0; total = total; comparisons = looked }) scratch′ list
   keeps none tables = found-accepted none over-total over-compared tables over-listed
 
