@@ -1,22 +1,24 @@
--- A book read cue by cue: the cases of `readUpTo`, what an accepted book's first cue is, where its titles stand, and what is known along a walk over it. Assumes nothing.
+-- A book read cue by cue: the cases of `readUpTo`, what an accepted book's first cue is, where its titles stand, and what is known at each cue of a walk over it. Assumes nothing.
 use mathlib.Core.Path.{_≡_, refl, sym, ap, ap₂, _∙_}
 use Prim.Native.Nat.{ℕ, zero, suc, _+_, _-_, _≤_, _<_}
 use native.Mathlib.Omega.{arith}
 use native.Mathlib.Numerals.{add-one}
-use mathlib.Core.Bool.{true, false, cond}
+use mathlib.Core.Bool.{cond}
 use mathlib.Core.List.{List, [], _∷_, _++_, append-nil}
 use lib.ListN.{length, getD, take, drop, length-drop, length-append}
 use lib.Seq.{drop-drop, getD-append-seam}
 use lib.Dec.{eqb, ltb}
 use borrow.Author.Tests.{eq-eqb, ne-eqb, eqb-true, eqb-false, lt-ltb, le-ltb, ltb-true, ltb-false}
 use Rattle.matching.proofs.Tests.{by-test}
-use Rattle.cue_fields.specs.Field.{fieldLength, fieldSize, fieldBody}
+use Rattle.cue_fields.specs.Field.{fieldBody}
+use Rattle.cue_fields.specs.Form.{formSize, afterForm}
+use Rattle.cue_fields.proofs.Fields.{after-field}
 use Rattle.cue_book.specs.declared.CueAnswer.{CueAnswer}
 use Rattle.cue_book.specs.declared.Part.{Part}
-use Rattle.cue_book.specs.Format.{Cue}
-use Rattle.cue_book.specs.Reading.{afterPhrase, afterOrdinal, afterCue, cueRefusal, cueSize, cueOf, Reading, refused, cues, followed, readUpTo, readBook, refusalOf, numberOf, cuesIn, titleAt}
-use Rattle.cue_book.specs.Places.{cueEnd, titleStart, cueAt, CueRead, cuePlace, CueBack, titleIn, front, titlePart, TitlePlaced}
-use Rattle.cue_book.proofs.Cues.{cue-most, cued, CueAt}
+use Rattle.cue_book.specs.Format.{Cue, headForm}
+use Rattle.cue_book.specs.Reading.{afterCue, cueRefusal, cueSize, cueOf, Reading, refused, cues, followed, readUpTo, readBook, refusalOf, numberOf, cuesIn, titleAt}
+use Rattle.cue_book.specs.Places.{cueEnd, titleStart, titleLength, cueAt, CueRead, cuePlace, CueBack, titleIn, front, titlePart, Shows, TitlePlaced}
+use Rattle.cue_book.proofs.Cues.{cue-most, cue-phrase, cue-inside, title-body, title-last, CueAt, title-ends}
 
 -- ---- reading on from here, by its cases
 
@@ -39,13 +41,7 @@ read-next more index rest h e = rw (ne-eqb (length rest) 0 h, eq-eqb (cueRefusal
 
 -- a cue that is read takes some bytes
 pub cue-some : (rest : List ℕ) → cueRefusal rest ≡ 0 → length rest ≡ 0 → ⊥
-cue-some rest e z = omega (arith, cued rest e .phrase .header)
-
--- and no more than there are
-pub cue-inside : (rest : List ℕ) → cueRefusal rest ≡ 0 → cueSize rest ≤ length rest
-cue-inside rest e =
-    let c = cued rest e in
-    omega (arith, c .phrase .whole, c .ordinal .whole, c .title .whole, length-drop (fieldSize rest) rest, length-drop (fieldSize (afterPhrase rest)) (afterPhrase rest))
+cue-some rest e z = omega (arith, cue-phrase rest e .header)
 
 -- ---- a reading that begins with a cue
 
@@ -166,14 +162,9 @@ accepted-book book z = by-reading (readBook book) refl
 
 -- ---- where cues and titles stand
 
-pub after-cue : (rest : List ℕ) → drop (cueSize rest) rest ≡ afterCue rest
-after-cue rest =
-    sym (drop-drop (fieldSize (afterPhrase rest) + fieldSize (afterOrdinal rest)) (fieldSize rest) rest)
-    ∙ sym (drop-drop (fieldSize (afterOrdinal rest)) (fieldSize (afterPhrase rest)) (afterPhrase rest))
-
--- the same by places of the book
-pub after-at-cue : (book : List ℕ) (place : ℕ) → drop (place + cueSize (drop place book)) book ≡ afterCue (drop place book)
-after-at-cue book place = sym (drop-drop (cueSize (drop place book)) place book) ∙ after-cue (drop place book)
+-- what is left after the cue at a place of the book
+after-at-cue : (book : List ℕ) (place : ℕ) → drop (place + cueSize (drop place book)) book ≡ afterCue (drop place book)
+after-at-cue book place = after-field book place (cueSize (drop place book))
 
 -- the first cue left out, the others stand where they did
 pub place-next : (rest : List ℕ) (k : ℕ) → cuePlace rest (suc k) ≡ cueSize rest + cuePlace (afterCue rest) k
@@ -182,12 +173,12 @@ place-next rest zero = omega arith
 place-next rest (suc k) =
     let on = place-next rest k in
     let p : ℕ = cuePlace (afterCue rest) k in
-    let here : drop (cuePlace rest (suc k)) rest ≡ drop p (afterCue rest) = ap (λ (n : ℕ). drop n rest) on ∙ sym (drop-drop p (cueSize rest) rest) ∙ ap (λ (l : List ℕ). drop p l) (after-cue rest) in
+    let here : drop (cuePlace rest (suc k)) rest ≡ drop p (afterCue rest) = ap (λ (n : ℕ). drop n rest) on ∙ sym (drop-drop p (cueSize rest) rest) in
     omega (arith, on, ap cueSize here)
 
 -- what is left at the cue of an index
 pub left-next : (rest : List ℕ) (k : ℕ) → drop (cuePlace rest (suc k)) rest ≡ drop (cuePlace (afterCue rest) k) (afterCue rest)
-left-next rest k = ap (λ (n : ℕ). drop n rest) (place-next rest k) ∙ sym (drop-drop (cuePlace (afterCue rest) k) (cueSize rest) rest) ∙ ap (λ (l : List ℕ). drop (cuePlace (afterCue rest) k) l) (after-cue rest)
+left-next rest k = ap (λ (n : ℕ). drop n rest) (place-next rest k) ∙ sym (drop-drop (cuePlace (afterCue rest) k) (cueSize rest) rest)
 
 -- at the place of a cue that was read, that cue is read
 pub record There (rest : List ℕ) (k : ℕ) (c : Cue) : Type 0 where
@@ -205,7 +196,9 @@ there (suc k) more index rest (c ∷ cs) d e h =
 
 -- so it lies in the book
 there-inside : {rest : List ℕ} {k : ℕ} {c : Cue} → There rest k c → cuePlace rest k + cueSize (drop (cuePlace rest k) rest) ≤ length rest
-there-inside {rest} {k} t = omega (arith, cue-inside (drop (cuePlace rest k) rest) (t .none), length-drop (cuePlace rest k) rest)
+there-inside {rest} {k} t =
+    let here : List ℕ = drop (cuePlace rest k) rest in
+    omega (arith, cue-inside here (t .none), cue-phrase here (t .none) .header, length-drop (cuePlace rest k) rest)
 
 -- `read_cue` at the place of an accepted book's cue gives that cue, whole, and ends where the next one begins
 pub cue-there : (book : List ℕ) (before : List Cue) (c : Cue) (later : List Cue) → readBook book ≡ cues (before ++ c ∷ later) → {r : CueAnswer}
@@ -223,31 +216,20 @@ cue-there book before c later e {r} read =
       next = ap cueEnd (read .answer) ∙ rw on;
     }
 
--- the last cue ends where the book does
-pub place-end : (more index : ℕ) (rest : List ℕ) (cs : List Cue) → readUpTo more index rest ≡ cues cs → cuePlace rest (length cs) ≡ length rest
-unfolding cuePlace
-place-end more index rest [] e = sym (ends more index rest e)
-place-end more index rest (c ∷ cs) e =
-    let b = begins more index rest c cs e in
-    let size : length (afterCue rest) ≡ length rest - cueSize rest = ap length (sym (after-cue rest)) ∙ length-drop (cueSize rest) rest in
-    omega (arith, place-next rest (length cs), place-end (b .fewer) (suc index) (afterCue rest) cs (b .then), cue-inside rest (b .none), size)
-
 title-of : (cs : List Cue) (k : ℕ) (d : Cue) → k < length cs → getD cs k d .title ≡ titleAt cs k
 unfolding titleAt
 title-of [] k d h = absurd (omega arith)
 title-of (c ∷ cs) zero d h = refl
 title-of (c ∷ cs) (suc k) d h = title-of cs k d (omega arith)
 
-title-there : {rest : List ℕ} {k : ℕ} {c : Cue} → There rest k c → fieldBody (afterOrdinal (drop (cuePlace rest k) rest)) ≡ c .title
-unfolding cueOf
-title-there t = ap (λ (d : Cue). d .title) (t .value)
+title-there : {rest : List ℕ} {k : ℕ} {c : Cue} → There rest k c → fieldBody (afterForm headForm (drop (cuePlace rest k) rest)) ≡ c .title
+title-there {rest} {k} t = title-body (drop (cuePlace rest k) rest) ∙ ap (λ (d : Cue). d .title) (t .value)
 
 -- the title's part of the book
-pub title-part : (book : List ℕ) (k : ℕ) → let p = titleIn book k in take (p .len) (drop (p .start) book) ≡ fieldBody (afterOrdinal (drop (cuePlace book k) book))
+title-part : (book : List ℕ) (k : ℕ) → let p = titleIn book k in take (p .len) (drop (p .start) book) ≡ fieldBody (afterForm headForm (drop (cuePlace book k) book))
 title-part book k =
     let rest : List ℕ = drop (cuePlace book k) book in
-    ap (λ (l : List ℕ). take (fieldLength (afterOrdinal rest)) l)
-    (sym (drop-drop (titleStart rest) (cuePlace book k) book) ∙ sym (drop-drop (fieldSize (afterPhrase rest) + 3) (fieldSize rest) rest) ∙ sym (drop-drop 3 (fieldSize (afterPhrase rest)) (afterPhrase rest)))
+    ap (λ (l : List ℕ). take (titleLength rest) l) (after-field book (cuePlace book k) (titleStart rest) ∙ after-field rest (formSize headForm rest) 3)
 
 -- ---- along an accepted book: what is left of it at a place reads as these cues, the first with that index
 
@@ -284,7 +266,7 @@ left-first {book} {index} {place} {c} {later} l =
 pub left-none : {book : List ℕ} {index place : ℕ} → Left book index place [] → length book ≤ place
 left-none {book} {index} {place} l = omega (arith, ends (l .more) index (drop place book) (l .reads), length-drop place book)
 
--- ---- along a walk: the cues read so far, and the rest, are the whole book
+-- ---- at a cue of a walk: the cues read so far, and the rest, are the whole book
 
 -- cues before what the rest reads as
 unfoldable pub followedAll : List Cue → Reading → Reading
@@ -306,7 +288,7 @@ unfolding followedAll
 all-cues [] cs = refl
 all-cues (d ∷ done) cs = ap (followed d) (all-cues done cs)
 
-pub record Along (book : List ℕ) (index place : ℕ) : Type 0 where
+pub record ReadSoFar (book : List ℕ) (index place : ℕ) : Type 0 where
   pub done : List Cue
   pub counted : length done ≡ index
   pub more : ℕ
@@ -315,30 +297,30 @@ pub record Along (book : List ℕ) (index place : ℕ) : Type 0 where
   pub here : place ≡ cuePlace book index
   pub inside : place ≤ length book
 
-pub along-first : (book : List ℕ) → Along book 0 0
+pub so-far-first : (book : List ℕ) → ReadSoFar book 0 0
 unfolding readBook followedAll cuePlace
-along-first book = record { done = []; counted = refl; more = 999; left = omega arith; whole = refl; here = refl; inside = omega arith }
+so-far-first book = record { done = []; counted = refl; more = 999; left = omega arith; whole = refl; here = refl; inside = omega arith }
 
-module _ {book : List ℕ} {index place : ℕ} (a : Along book index place) where
+module _ {book : List ℕ} {index place : ℕ} (a : ReadSoFar book index place) where
   left-some : place < length book → length (drop place book) ≡ 0 → ⊥
   left-some h z = omega (arith, length-drop place book)
 
   -- bytes remain after 999 cues
-  pub along-over : place < length book → index ≡ 999 → readBook book ≡ refused 10 999
-  along-over h n =
+  pub so-far-over : place < length book → index ≡ 999 → readBook book ≡ refused 10 999
+  so-far-over h n =
       let e : a .more ≡ 0 = omega (arith, a .left) in
       a .whole ∙ ap (followedAll (a .done)) (ap₂ (λ (m i : ℕ). readUpTo m i (drop place book)) e n ∙ read-over 999 (drop place book) (left-some h)) ∙ all-refused (a .done) 10 999
 
   -- the next cue is refused
-  pub along-refused : {number : ℕ} → place < length book → index < 999 → cueRefusal (drop place book) ≡ number → (number ≡ 0 → ⊥) → readBook book ≡ refused number index
-  along-refused {number} h n e some =
+  pub so-far-refused : {number : ℕ} → place < length book → index < 999 → cueRefusal (drop place book) ≡ number → (number ≡ 0 → ⊥) → readBook book ≡ refused number index
+  so-far-refused {number} h n e some =
       let m : a .more ≡ suc (a .more - 1) = omega (arith, a .left) in
       a .whole ∙ ap (followedAll (a .done)) (ap (λ (m : ℕ). readUpTo m index (drop place book)) m ∙ read-refused (a .more - 1) index (drop place book) (left-some h) e some) ∙ all-refused (a .done) number index
 
   -- the next cue is read
-  pub along-next : {next : ℕ} → place < length book → index < 999 → cueRefusal (drop place book) ≡ 0 → next ≡ place + cueSize (drop place book) → Along book (index + 1) next
+  pub so-far-next : {next : ℕ} → place < length book → index < 999 → cueRefusal (drop place book) ≡ 0 → next ≡ place + cueSize (drop place book) → ReadSoFar book (index + 1) next
   unfolding cuePlace
-  along-next {next} h n e p =
+  so-far-next {next} h n e p =
       let m : a .more ≡ suc (a .more - 1) = omega (arith, a .left) in
       let c = cueOf (drop place book) in
       let rest : drop next book ≡ afterCue (drop place book) = ap (λ (k : ℕ). drop k book) p ∙ after-at-cue book place in
@@ -356,11 +338,11 @@ module _ {book : List ℕ} {index place : ℕ} (a : Along book index place) wher
       }
 
   -- the book ends here
-  pub along-end : length book ≤ place → readBook book ≡ cues (a .done)
-  along-end h =
+  pub so-far-end : length book ≤ place → readBook book ≡ cues (a .done)
+  so-far-end h =
       a .whole ∙ ap (followedAll (a .done)) (read-end (a .more) index (drop place book) (omega (arith, length-drop place book))) ∙ all-cues (a .done) [] ∙ ap cues (append-nil (a .done))
 
--- ---- the wanted cue's title, noted along the walk
+-- ---- the wanted cue's title, noted by the walk
 
 -- the part so far: that of the wanted cue once it has been passed
 pub record Noted (book : List ℕ) (wanted index : ℕ) (p : Part) : Type 0 where
@@ -379,16 +361,13 @@ noted-other {book} {wanted} {index} {p} other n =
     past : index ≤ wanted → index + 1 ≤ wanted
     past h = by-test (λ _. index + 1 ≤ wanted) (eqb index wanted) (λ e. absurd (other (eqb-true index wanted e))) (λ e. omega (arith, eqb-false index wanted e))
 
-module _ {book : List ℕ} {index place phrase phrase-end ordinal title end : ℕ} (a : Along book index place) (c : CueAt book place phrase phrase-end ordinal title end) where
-  pub title-inside : title ≤ end
-  title-inside = omega (arith, c .title-is, c .end-is)
-
+module _ {book : List ℕ} {index place phrase phrase-end ordinal title end : ℕ} (a : ReadSoFar book index place) (c : CueAt book place phrase phrase-end ordinal title end) where
   pub noted-this : {wanted : ℕ} → index ≡ wanted → Noted book wanted (index + 1) (record { start = title; len = end - title })
   noted-this {wanted} e =
       let here : cuePlace book wanted ≡ place = ap (cuePlace book) (sym e) ∙ sym (a .here) in
       let start : title ≡ titleIn book wanted .start = c .title-is ∙ ap (λ (k : ℕ). k + titleStart (drop k book)) (sym here) in
-      let len : end - title ≡ fieldLength (afterOrdinal (drop place book)) = omega (arith, c .title-is, c .end-is) in
-      record { is = rw (lt-ltb wanted (index + 1) (omega arith)) (ap₂ (λ (s l : ℕ). record { start = s; len = l }) start (len ∙ ap (λ (k : ℕ). fieldLength (afterOrdinal (drop k book))) (sym here))) }
+      let len : end - title ≡ titleLength (drop place book) = omega (arith, title-ends c .0) in
+      record { is = rw (lt-ltb wanted (index + 1) (omega arith)) (ap₂ (λ (s l : ℕ). record { start = s; len = l }) start (len ∙ ap (λ (k : ℕ). titleLength (drop k book)) (sym here))) }
 
 -- what is shown in the end
 pub part-refused : (book : List ℕ) (wanted : ℕ) {number index : ℕ} → readBook book ≡ refused number index → titlePart book wanted ≡ front
@@ -412,11 +391,6 @@ title-past [] k h = refl
 title-past (c ∷ cs) zero h = absurd (omega arith)
 title-past (c ∷ cs) (suc k) h = title-past cs k (omega arith)
 
--- the part that is shown lies in the book, and holds the title
-pub record Shows (book : List ℕ) (k : ℕ) (p : Part) : Type 0 where
-  pub inside : p .start + p .len ≤ length book
-  pub holds : take (p .len) (drop (p .start) book) ≡ titleAt (cuesIn (readBook book)) k
-
 pub title-shows : (book : List ℕ) (k : ℕ) → Shows book k (titlePart book k)
 unfolding titlePart readBook
 title-shows book k =
@@ -426,7 +400,7 @@ title-shows book k =
     let e : readUpTo 999 0 book ≡ cues (cuesIn (readBook book)) = some-cues (readBook book) h in
     let d : Cue = cueOf book in
     let t = there k 999 0 book (cuesIn (readBook book)) d e h in
-    record { inside = omega (arith, there-inside t); holds = title-part book k ∙ title-there t ∙ title-of (cuesIn (readBook book)) k d h })
+    record { inside = omega (arith, there-inside t, title-last (drop (cuePlace book k) book)); holds = title-part book k ∙ title-there t ∙ title-of (cuesIn (readBook book)) k d h })
     (λ t. record { inside = omega arith; holds = sym (title-past (cuesIn (readBook book)) k (ltb-false k (length (cuesIn (readBook book))) t)) })
 
 -- the part of a title that was placed lies in the book

@@ -1,64 +1,53 @@
--- A cue read field by field: the cases of `cueRefusal`, and where the three fields stand in the book. Assumes nothing.
+-- A cue read field by field at places of a book, its answer taken apart, and where its phrase and its title stand. Assumes nothing.
 use mathlib.Core.Path.{_≡_, refl, sym, ap, ap₂, _∙_}
-use Prim.Native.Nat.{ℕ, _+_, _-_, _≤_}
+use Prim.Native.Nat.{ℕ, _+_, _-_, _≤_, _<_}
 use native.Mathlib.Omega.{arith}
 use mathlib.Core.List.{List, [], _∷_}
 use lib.ListN.{length, drop, length-drop}
-use lib.Dec.{eqb, leb}
+use lib.Dec.{leb}
 use denote.Enum.Declared as declared
-use borrow.Author.Tests.{eq-eqb, ne-eqb, eqb-true, eqb-false, leb-true}
-use Rattle.matching.proofs.Tests.{by-test, both, cond-most}
+use borrow.Author.Tests.{eq-eqb, ne-eqb, leb-true}
+use Rattle.matching.proofs.Tests.{both}
 use Rattle.cue_fields.specs.declared.Due.the-variants.{Phrase, Ordinal, Title}
-use Rattle.cue_fields.specs.Field.{numberIn, fieldLength, fieldSize, fieldBody, afterField, fieldRefusal, part}
-use Rattle.cue_fields.proofs.Fields.{after-field, field-most}
-use Rattle.cue_fields.proofs.Fielded.{Fielded, fielded, field-fine, BodyAt, told-apart, firstOf, after-at, ordinal-number}
+use Rattle.cue_fields.specs.Field.{numberIn, fieldLength, fieldSize, fieldBody, afterField, part}
+use Rattle.cue_fields.specs.Form.{formSize, afterForm, formBodies}
+use Rattle.cue_fields.proofs.Fields.{Fielded, BodyAt, told-apart, firstOf}
+use Rattle.cue_fields.proofs.Form.{form-none, form-fine, form-most, form-inside, after-next, step-refusal, step-size, step-bodies}
 use Rattle.cue_book.specs.declared.CueAnswer.{CueAnswer}
 use Rattle.cue_book.specs.declared.CueAnswer.the-variants as answer
 use Rattle.cue_book.proofs.CueAnswer as answers
-use Rattle.cue_book.specs.Format.{Cue, cueWith}
-use Rattle.cue_book.specs.Reading.{afterPhrase, afterOrdinal, cueRefusal, cueSize, cueOf}
-use Rattle.cue_book.specs.Places.{cueNumber, cueEnd, cuesMeant, titleStart, cueAt, CueRead}
+use Rattle.cue_book.specs.Format.{Cue, cueWith, cueForm, headForm, cueFrom}
+use Rattle.cue_book.specs.Reading.{cueRefusal, cueSize, cueOf}
+use Rattle.cue_book.specs.Places.{cueNumber, cueEnd, cuesMeant, titleStart, titleLength, cueAt, CueRead}
 
--- ---- the refusal of a cue by its cases
+-- ---- a cue, from what is left of the book
 
 module _ (rest : List ℕ) where
-  pub cue-first : {number : ℕ} → fieldRefusal Phrase rest ≡ number → (number ≡ 0 → ⊥) → cueRefusal rest ≡ number
-  unfolding cueRefusal
-  cue-first e some = rw (ne-eqb (fieldRefusal Phrase rest) 0 (λ z. some (sym e ∙ z))) e
-
-  pub cue-second : {number : ℕ} → fieldRefusal Phrase rest ≡ 0 → fieldRefusal Ordinal (afterPhrase rest) ≡ number → (number ≡ 0 → ⊥) → cueRefusal rest ≡ number
-  unfolding cueRefusal
-  cue-second p e some = rw (eq-eqb (fieldRefusal Phrase rest) 0 p, ne-eqb (fieldRefusal Ordinal (afterPhrase rest)) 0 (λ z. some (sym e ∙ z))) e
-
-  pub cue-third : fieldRefusal Phrase rest ≡ 0 → fieldRefusal Ordinal (afterPhrase rest) ≡ 0 → cueRefusal rest ≡ fieldRefusal Title (afterOrdinal rest)
-  unfolding cueRefusal
-  cue-third p o = rw (eq-eqb (fieldRefusal Phrase rest) 0 p, eq-eqb (fieldRefusal Ordinal (afterPhrase rest)) 0 o)
-
   pub cue-most : cueRefusal rest ≤ 9
   unfolding cueRefusal
-  cue-most = cond-most (eqb (fieldRefusal Phrase rest) 0) (cond-most (eqb (fieldRefusal Ordinal (afterPhrase rest)) 0) (field-most Title (afterOrdinal rest)) (field-most Ordinal (afterPhrase rest))) (field-most Phrase rest)
+  cue-most = form-most cueForm rest
 
-  -- a cue that is read: its three fields are
-  pub record Cued : Type 0 where
-    pub phrase : Fielded Phrase rest
-    pub ordinal : Fielded Ordinal (afterPhrase rest)
-    pub title : Fielded Title (afterOrdinal rest)
-
-  pub cued : cueRefusal rest ≡ 0 → Cued
+  -- one that is read begins with a phrase, and takes no more bytes than there are
+  pub cue-phrase : cueRefusal rest ≡ 0 → Fielded Phrase rest
   unfolding cueRefusal
-  cued e =
-      by-test (λ _. Cued) (eqb (fieldRefusal Phrase rest) 0)
-      (λ t.
-      let p = eqb-true (fieldRefusal Phrase rest) 0 t in
-      by-test (λ _. Cued) (eqb (fieldRefusal Ordinal (afterPhrase rest)) 0)
-      (λ u.
-      let o = eqb-true (fieldRefusal Ordinal (afterPhrase rest)) 0 u in
-      record { phrase = fielded Phrase rest p; ordinal = fielded Ordinal (afterPhrase rest) o; title = fielded Title (afterOrdinal rest) (sym (cue-third p o) ∙ e) })
-      (λ u. let s = eqb-false (fieldRefusal Ordinal (afterPhrase rest)) 0 u in absurd (s (sym (cue-second p refl s) ∙ e))))
-      (λ t. let s = eqb-false (fieldRefusal Phrase rest) 0 t in absurd (s (sym (cue-first refl s) ∙ e)))
+  cue-phrase e = form-fine Phrase (Ordinal ∷ Title ∷ []) rest e .0
 
-  pub cue-fine : Cued → cueRefusal rest ≡ 0
-  cue-fine c = cue-third (field-fine (c .phrase)) (field-fine (c .ordinal)) ∙ field-fine (c .title)
+  pub cue-inside : cueRefusal rest ≡ 0 → cueSize rest ≤ length rest
+  unfolding cueRefusal
+  cue-inside e = form-inside cueForm rest e
+
+  -- its title is the body of the field after the first two, and ends where the cue does
+  after-head : afterForm headForm rest ≡ afterField (afterField rest)
+  unfolding formSize
+  after-head = after-next Phrase (Ordinal ∷ []) rest ∙ after-next Ordinal [] (afterField rest)
+
+  pub title-body : fieldBody (afterForm headForm rest) ≡ cueOf rest .title
+  unfolding cueOf formBodies
+  title-body = ap fieldBody after-head
+
+  pub title-last : cueSize rest ≡ titleStart rest + titleLength rest
+  unfolding formSize
+  title-last = omega (arith, ap fieldLength after-head)
 
 -- ---- where a cue stands in the book
 
@@ -69,40 +58,42 @@ module _ (book : List ℕ) (place : ℕ) where
       let off = ne-eqb (cueRefusal (drop place book)) 0 (λ z. some (sym e ∙ z)) in
       record { answer = rw off (ap answer.Refused (sym e)); number = sym e; meant = rw off }
 
--- cues are equal by their fields
-pub same-cue : {a a′ c c′ : List ℕ} {b b′ : ℕ} → a ≡ a′ → b ≡ b′ → c ≡ c′ → cueWith a b c ≡ cueWith a′ b′ c′
-same-cue {a} {a′} {c} {c′} {b} {b′} i j k = ap₂ (λ (x : List ℕ) (y : ℕ). cueWith x y c) i j ∙ ap (λ (x : List ℕ). cueWith a′ b′ x) k
+-- its fields, read one after another
+module _
+    {book : List ℕ}
+    {place phrase phrase-end body ordinal-end title end : ℕ}
+    (p : BodyAt book place Phrase phrase phrase-end)
+    (o : BodyAt book phrase-end Ordinal body ordinal-end)
+    (t : BodyAt book ordinal-end Title title end)
+  where
+    fields-none : cueRefusal (drop place book) ≡ 0
+    unfolding cueRefusal
+    fields-none = step-refusal p (Ordinal ∷ Title ∷ []) ∙ step-refusal o (Title ∷ []) ∙ step-refusal t [] ∙ form-none (drop end book) .0
 
--- the three fields, read one after another, are the cue
-module _ {book : List ℕ} {place phrase phrase-end body ordinal-end : ℕ} (p : BodyAt book place Phrase phrase phrase-end) (o : BodyAt book phrase-end Ordinal body ordinal-end) where
-  pub at-ordinal : drop phrase-end book ≡ afterPhrase (drop place book)
-  at-ordinal = after-at p
+    fields-value : cueWith (part book phrase phrase-end) (numberIn (part book body ordinal-end)) (part book title end) ≡ cueOf (drop place book)
+    unfolding cueOf
+    fields-value =
+        let third = step-bodies t [] ∙ ap (λ (l : List (List ℕ)). part book title end ∷ l) (form-none (drop end book) .2) in
+        let second = step-bodies o (Title ∷ []) ∙ ap (λ (l : List (List ℕ)). part book body ordinal-end ∷ l) third in
+        ap cueFrom (sym (step-bodies p (Ordinal ∷ Title ∷ []) ∙ ap (λ (l : List (List ℕ)). part book phrase phrase-end ∷ l) second))
 
-  pub at-title : drop ordinal-end book ≡ afterOrdinal (drop place book)
-  at-title = after-at o ∙ ap afterField at-ordinal
-
-  pub first-two : cueRefusal (drop place book) ≡ fieldRefusal Title (drop ordinal-end book)
-  first-two = cue-third (drop place book) (p .none) (ap (fieldRefusal Ordinal) (sym at-ordinal) ∙ o .none) ∙ ap (fieldRefusal Title) (sym at-title)
-
-  pub cue-read : {ordinal title end : ℕ} → BodyAt book ordinal-end Title title end → ordinal ≡ numberIn (drop body book) → CueRead book place (answer.Cue phrase phrase-end ordinal title end)
-  unfolding cueAt cueOf
-  cue-read {ordinal} {title} {end} t e =
-      let none : cueRefusal (drop place book) ≡ 0 = first-two ∙ t .none in
-      let on = eq-eqb (cueRefusal (drop place book)) 0 none in
-      let named : Fielded Ordinal (afterPhrase (drop place book)) = fielded Ordinal (afterPhrase (drop place book)) (ap (fieldRefusal Ordinal) (sym at-ordinal) ∙ o .none) in
-      let number : ordinal ≡ numberIn (fieldBody (afterPhrase (drop place book))) =
-      e ∙ ap numberIn (ap (λ (k : ℕ). drop k book) (o .start-is) ∙ after-field book phrase-end 3 ∙ ap (λ (l : List ℕ). drop 3 l) at-ordinal) ∙ sym (ordinal-number named) in
-      let start : title ≡ place + titleStart (drop place book) = omega (arith, p .end-is, o .end-is, t .start-is, ap fieldSize at-ordinal) in
-      let ends : end ≡ place + cueSize (drop place book) = omega (arith, p .end-is, o .end-is, t .end-is, ap fieldSize at-ordinal, ap fieldSize at-title) in
-      record {
-        answer = rw on (ap-cue (p .start-is) (p .end-is) number start ends);
-        number = sym none;
-        meant = rw on (ap (λ (c : Cue). c ∷ []) (same-cue (p .body) number (t .body ∙ ap fieldBody at-title)));
-      }
-    where
-      ap-cue : {a a′ b b′ c c′ d d′ f f′ : ℕ} → a ≡ a′ → b ≡ b′ → c ≡ c′ → d ≡ d′ → f ≡ f′ → answer.Cue a b c d f ≡ answer.Cue a′ b′ c′ d′ f′
-      ap-cue {a} {a′} {b} {b′} {c} {c′} {d} {d′} {f} {f′} i j k l m =
-          ap₂ (λ (x y : ℕ). answer.Cue x y c d f) i j ∙ ap₂ (λ (x y : ℕ). answer.Cue a′ b′ x y f) k l ∙ ap (λ (x : ℕ). answer.Cue a′ b′ c′ d′ x) m
+    pub cue-read : {ordinal : ℕ} → ordinal ≡ numberIn (part book body ordinal-end) → CueRead book place (answer.Cue phrase phrase-end ordinal title end)
+    unfolding cueAt
+    cue-read {ordinal} e =
+        let rest : List ℕ = drop place book in
+        let on = eq-eqb (cueRefusal rest) 0 fields-none in
+        let value : cueWith (part book phrase phrase-end) ordinal (part book title end) ≡ cueOf rest = ap (λ (n : ℕ). cueWith (part book phrase phrase-end) n (part book title end)) e ∙ fields-value in
+        let start : title ≡ place + titleStart rest = omega (arith, step-size p (Ordinal ∷ []), step-size o [], form-none (drop ordinal-end book) .1, t .start-is) in
+        let ends : end ≡ place + cueSize rest = omega (arith, step-size p (Ordinal ∷ Title ∷ []), step-size o (Title ∷ []), step-size t [], form-none (drop end book) .1) in
+        record {
+          answer = rw on (ap-cue (p .start-is) (p .end-is) (ap (λ (c : Cue). c .ordinal) value) start ends);
+          number = sym fields-none;
+          meant = rw on (ap (λ (c : Cue). c ∷ []) value);
+        }
+      where
+        ap-cue : {a a′ b b′ c c′ d d′ f f′ : ℕ} → a ≡ a′ → b ≡ b′ → c ≡ c′ → d ≡ d′ → f ≡ f′ → answer.Cue a b c d f ≡ answer.Cue a′ b′ c′ d′ f′
+        ap-cue {a} {a′} {b} {b′} {c} {c′} {d} {d′} {f} {f′} i j k l m =
+            ap₂ (λ (x y : ℕ). answer.Cue x y c d f) i j ∙ ap₂ (λ (x y : ℕ). answer.Cue a′ b′ x y f) k l ∙ ap (λ (x : ℕ). answer.Cue a′ b′ c′ d′ x) m
 
 -- ---- a cue's answer taken apart
 
@@ -113,7 +104,7 @@ pub record CueAt (book : List ℕ) (place phrase phrase-end ordinal title end : 
   pub phrase-end-is : phrase-end ≡ place + fieldSize (drop place book)
   pub title-is : title ≡ place + titleStart (drop place book)
   pub end-is : end ≡ place + cueSize (drop place book)
-  pub meant : record { phrase = part book phrase phrase-end; ordinal = ordinal; title = part book title end } ≡ cueOf (drop place book)
+  pub meant : cueWith (part book phrase phrase-end) ordinal (part book title end) ≡ cueOf (drop place book)
 
 phraseOf : CueAnswer → ℕ
 phraseOf (answer.Cue phrase phrase-end ordinal title end) = phrase
@@ -147,7 +138,7 @@ module _ {book : List ℕ} {place : ℕ} {r : CueAnswer} (read : CueRead book pl
   cue-refused-some t z =
       let on = eq-eqb (cueRefusal (drop place book)) 0 (sym (read .number) ∙ z) in
       let rest : List ℕ = drop place book in
-      let is : r ≡ answer.Cue (place + 3) (place + fieldSize rest) (numberIn (fieldBody (afterPhrase rest))) (place + titleStart rest) (place + cueSize rest) = read .answer ∙ rw on in
+      let is : r ≡ answer.Cue (place + 3) (place + fieldSize rest) (cueOf rest .ordinal) (place + titleStart rest) (place + cueSize rest) = read .answer ∙ rw on in
       told-apart (declared.tagOf answers.the-type) is refl t
 
 -- the phrase lies in the book, and its length is allowed
@@ -159,7 +150,7 @@ pub record PhraseInside (book : List ℕ) (phrase phrase-end : ℕ) : Type 0 whe
 
 pub phrase-inside : {book : List ℕ} {place phrase phrase-end ordinal title end : ℕ} → CueAt book place phrase phrase-end ordinal title end → PhraseInside book phrase phrase-end
 phrase-inside {book} {place} c =
-    let f = cued (drop place book) (c .none) .phrase in
+    let f = cue-phrase (drop place book) (c .none) in
     let lengths = both (leb 1 (fieldLength (drop place book))) (leb (fieldLength (drop place book)) 1024) (f .lengths) in
     let some = leb-true 1 (fieldLength (drop place book)) (lengths .0) in
     let short = leb-true (fieldLength (drop place book)) 1024 (lengths .1) in
@@ -169,3 +160,7 @@ phrase-inside {book} {place} c =
       some = omega (arith, c .phrase-is, c .phrase-end-is);
       short = omega (arith, c .phrase-is, c .phrase-end-is);
     }
+
+-- the title ends where the cue does, which is further on
+pub title-ends : {book : List ℕ} {place phrase phrase-end ordinal title end : ℕ} → CueAt book place phrase phrase-end ordinal title end → (end ≡ title + titleLength (drop place book)) × (place < end)
+title-ends {book} {place} c = let last = title-last (drop place book) in (omega (arith, c .title-is, c .end-is, last), omega (arith, c .end-is, last))

@@ -1,3 +1,4 @@
--- The laws of cues and books.
+-- The laws of cues, of their values, and of books.
 pub mod Cues
+pub mod Values
 pub mod Books

@@ -1,8 +1,11 @@
--- The cue book's format (document 01, "Cue book, folding, lines"): a cue as a value, its bytes, and a book's bytes.
+-- The cue book's format (document 01, "Cue book, folding, lines"): a cue as a value, its fields, its bytes, and a book's bytes.
 use Prim.Native.Nat.{ℕ, _≤_}
 use mathlib.Core.List.{List, [], _∷_, _++_}
-use lib.ListN.{length}
-use Rattle.cue_fields.specs.Field.{twoBytes, fieldBytes}
+use lib.ListN.{length, getD}
+use Rattle.cue_fields.specs.declared.Due.{Due}
+use Rattle.cue_fields.specs.declared.Due.the-variants.{Phrase, Ordinal, Title}
+use Rattle.cue_fields.specs.Field.{twoBytes, numberIn}
+use Rattle.cue_fields.specs.Form.{formBytes}
 
 -- a cue: the phrase, which of its occurrences is meant (1 is the first), and the title to show
 pub record Cue : Type 0 where
@@ -14,9 +17,26 @@ pub record Cue : Type 0 where
 abbrev pub cueWith : List ℕ → ℕ → List ℕ → Cue
 cueWith phrase ordinal title = record { phrase = phrase; ordinal = ordinal; title = title }
 
--- a cue: tag 0x01 phrase, 0x02 ordinal, 0x03 title, in that order
+-- ---- its fields and its bytes
+
+-- its fields, in this order, and those before its title
+abbrev pub cueForm : List Due
+cueForm = Phrase ∷ Ordinal ∷ Title ∷ []
+
+abbrev pub headForm : List Due
+headForm = Phrase ∷ Ordinal ∷ []
+
+-- their bodies, and the cue that such bodies are
+abbrev pub cueBodies : Cue → List (List ℕ)
+cueBodies c = c .phrase ∷ twoBytes (c .ordinal) ∷ c .title ∷ []
+
+abbrev pub cueFrom : List (List ℕ) → Cue
+cueFrom bodies = cueWith (getD bodies 0 []) (numberIn (getD bodies 1 [])) (getD bodies 2 [])
+
+-- its bytes
 unfoldable pub cueBytes : Cue → List ℕ
-cueBytes c = fieldBytes 1 (c .phrase) ++ (fieldBytes 2 (twoBytes (c .ordinal)) ++ fieldBytes 3 (c .title))
+unfolding formBytes
+cueBytes c = formBytes cueForm (cueBodies c)
 
 -- a book: its cues, one after another, and nothing after
 unfoldable pub bookBytes : List Cue → List ℕ
@@ -24,7 +44,9 @@ unfolding cueBytes
 bookBytes [] = []
 bookBytes (c ∷ cs) = cueBytes c ++ bookBytes cs
 
--- what a cue may be: a phrase of 1 to 1,024, an ordinal of 1 to 65,535, a title of 0 to 200
+-- ---- what a cue may be
+
+-- a phrase of 1 to 1,024, an ordinal of 1 to 65,535, a title of 0 to 200
 pub record Valid (c : Cue) : Type 0 where
   pub some : 1 ≤ length (c .phrase)
   pub short : length (c .phrase) ≤ 1024

@@ -1,18 +1,19 @@
 -- Where cues and titles stand in a book, and what the reading functions promise.
 use mathlib.Core.Path.{_≡_}
-use Prim.Native.Nat.{ℕ, zero, suc, _+_}
+use Prim.Native.Nat.{ℕ, zero, suc, _+_, _≤_}
 use mathlib.Core.Bool.{cond}
 use mathlib.Core.List.{List, [], _∷_}
 use lib.ListN.{length, take, drop}
 use lib.Dec.{eqb, ltb}
 use denote.Ref.{RefT}
-use Rattle.cue_fields.specs.Field.{numberIn, fieldLength, fieldSize, fieldBody, part}
+use Rattle.cue_fields.specs.Field.{numberIn, fieldLength, fieldSize, part}
+use Rattle.cue_fields.specs.Form.{formSize, afterForm}
 use Rattle.cue_book.specs.declared.CueAnswer.{CueAnswer}
 use Rattle.cue_book.specs.declared.CueAnswer.the-variants as entry
 use Rattle.cue_book.specs.declared.Answer.{Answer}
 use Rattle.cue_book.specs.declared.Part.{Part}
-use Rattle.cue_book.specs.Format.{Cue}
-use Rattle.cue_book.specs.Reading.{afterPhrase, afterOrdinal, cueRefusal, cueSize, cueOf, readBook, refusalOf, numberOf, cuesIn, titleAt}
+use Rattle.cue_book.specs.Format.{Cue, headForm, cueWith}
+use Rattle.cue_book.specs.Reading.{cueRefusal, cueSize, cueOf, readBook, refusalOf, numberOf, cuesIn, titleAt}
 
 -- ---- a cue
 
@@ -28,19 +29,22 @@ cueEnd (entry.Refused number) = 0
 
 -- the cue that an answer means: its phrase and its title are parts of the book. A refusal means none
 abbrev pub cuesMeant : List ℕ → CueAnswer → List Cue
-cuesMeant book (entry.Cue phrase phrase-end ordinal title end) = record { phrase = part book phrase phrase-end; ordinal = ordinal; title = part book title end } ∷ []
+cuesMeant book (entry.Cue phrase phrase-end ordinal title end) = cueWith (part book phrase phrase-end) ordinal (part book title end) ∷ []
 cuesMeant book (entry.Refused number) = []
 
--- where a cue's title starts, from the cue on: after two fields and the header of the third
+-- where a cue's title starts, from the cue on: after the fields before it and its header; and its length
 abbrev pub titleStart : List ℕ → ℕ
-titleStart rest = fieldSize rest + (fieldSize (afterPhrase rest) + 3)
+titleStart rest = formSize headForm rest + 3
+
+abbrev pub titleLength : List ℕ → ℕ
+titleLength rest = fieldLength (afterForm headForm rest)
 
 -- the answer at a place
 unfoldable pub cueAt : List ℕ → ℕ → CueAnswer
-unfolding cueRefusal numberIn
+unfolding cueRefusal cueOf formSize numberIn
 cueAt book place =
     cond (eqb (cueRefusal (drop place book)) 0)
-    (entry.Cue (place + 3) (place + fieldSize (drop place book)) (numberIn (fieldBody (afterPhrase (drop place book)))) (place + titleStart (drop place book)) (place + cueSize (drop place book)))
+    (entry.Cue (place + 3) (place + fieldSize (drop place book)) (cueOf (drop place book) .ordinal) (place + titleStart (drop place book)) (place + cueSize (drop place book)))
     (entry.Refused (cueRefusal (drop place book)))
 
 -- what is read there, its number in document 01, and the cue that it means
@@ -57,7 +61,7 @@ bookAnswer book = record { refusal = refusalOf (readBook book); number = numberO
 
 -- where the cue of that index begins: after the one before it
 unfoldable pub cuePlace : List ℕ → ℕ → ℕ
-unfolding numberIn
+unfolding formSize
 cuePlace book zero = 0
 cuePlace book (suc index) = cuePlace book index + cueSize (drop (cuePlace book index) book)
 
@@ -72,7 +76,7 @@ pub record CueBack (book : List ℕ) (index : ℕ) (c : Cue) (r : CueAnswer) : T
 -- where its title stands
 abbrev pub titleIn : List ℕ → ℕ → Part
 titleIn book index =
-    record { start = cuePlace book index + titleStart (drop (cuePlace book index) book); len = fieldLength (afterOrdinal (drop (cuePlace book index) book)) }
+    record { start = cuePlace book index + titleStart (drop (cuePlace book index) book); len = titleLength (drop (cuePlace book index) book) }
 
 -- the empty part at the book's front
 abbrev pub front : Part
@@ -80,8 +84,13 @@ front = record { start = 0; len = 0 }
 
 -- where a title is shown: the empty part at the front where the book is refused or lacks the cue
 unfoldable pub titlePart : List ℕ → ℕ → Part
-unfolding readBook cuePlace
+unfolding readBook cuePlace formSize numberIn
 titlePart book index = cond (ltb index (length (cuesIn (readBook book)))) (titleIn book index) front
+
+-- a part lies in the book, and holds the title of that cue
+pub record Shows (book : List ℕ) (index : ℕ) (p : Part) : Type 0 where
+  pub inside : p .start + p .len ≤ length book
+  pub holds : take (p .len) (drop (p .start) book) ≡ titleAt (cuesIn (readBook book)) index
 
 -- the part, and that the title of that cue is what stands there
 pub record TitlePlaced (book : List ℕ) (index : ℕ) (r : Part) : Type 0 where

@@ -1,41 +1,43 @@
 -- What reading gives on every byte string (document 01, "Cue book, folding, lines"), with the tests in the document's order. `rest` is what is left of the book at a cue.
-use Prim.Native.Nat.{ℕ, zero, suc, _+_}
+use mathlib.Core.Path.{_≡_}
+use Prim.Native.Nat.{ℕ, zero, suc}
 use mathlib.Core.Bool.{cond}
-use mathlib.Core.List.{List, [], _∷_}
+use mathlib.Core.List.{List, [], _∷_, _++_}
 use lib.ListN.{length}
 use lib.Dec.{eqb}
-use Rattle.cue_fields.specs.declared.Due.the-variants.{Phrase, Ordinal, Title}
-use Rattle.cue_fields.specs.Field.{numberIn, fieldSize, fieldBody, afterField, fieldRefusal}
-use Rattle.cue_book.specs.Format.{Cue}
+use Rattle.cue_fields.specs.Field.{numberIn}
+use Rattle.cue_fields.specs.Form.{formRefusal, formSize, afterForm, formBodies}
+use Rattle.cue_book.specs.Format.{Cue, cueForm, cueFrom, cueBytes, Valid}
 
--- ---- a cue: its three fields
+-- ---- a cue: its fields
 
--- what is left after its phrase, after its ordinal, and after the whole cue
-abbrev pub afterPhrase : List ℕ → List ℕ
-afterPhrase rest = afterField rest
+-- the first refusal among them, 0 for none
+unfoldable pub cueRefusal : List ℕ → ℕ
+unfolding formRefusal
+cueRefusal rest = formRefusal cueForm rest
 
-abbrev pub afterOrdinal : List ℕ → List ℕ
-afterOrdinal rest = afterField (afterField rest)
+-- the bytes that it takes, and what is left after it
+abbrev pub cueSize : List ℕ → ℕ
+cueSize rest = formSize cueForm rest
 
 abbrev pub afterCue : List ℕ → List ℕ
-afterCue rest = afterField (afterField (afterField rest))
-
--- the first refusal among its fields, 0 for none
-unfoldable pub cueRefusal : List ℕ → ℕ
-unfolding fieldRefusal
-cueRefusal rest =
-    cond (eqb (fieldRefusal Phrase rest) 0)
-    (cond (eqb (fieldRefusal Ordinal (afterPhrase rest)) 0) (fieldRefusal Title (afterOrdinal rest)) (fieldRefusal Ordinal (afterPhrase rest)))
-    (fieldRefusal Phrase rest)
-
--- the bytes that it takes
-abbrev pub cueSize : List ℕ → ℕ
-cueSize rest = fieldSize rest + (fieldSize (afterPhrase rest) + fieldSize (afterOrdinal rest))
+afterCue rest = afterForm cueForm rest
 
 -- its value
 unfoldable pub cueOf : List ℕ → Cue
-unfolding numberIn
-cueOf rest = record { phrase = fieldBody rest; ordinal = numberIn (fieldBody (afterPhrase rest)); title = fieldBody (afterOrdinal rest) }
+unfolding formBodies numberIn
+cueOf rest = cueFrom (formBodies cueForm rest)
+
+-- what is written reads back: its bytes, before anything, are not refused, are read as that cue, and leave the rest
+pub record Back (c : Cue) (more : List ℕ) : Type 0 where
+  pub none : cueRefusal (cueBytes c ++ more) ≡ 0
+  pub value : cueOf (cueBytes c ++ more) ≡ c
+  pub after : afterCue (cueBytes c ++ more) ≡ more
+
+-- what is accepted was so written: it is the bytes of the cue that it is read as, which is valid, and what is left
+pub record Put (rest : List ℕ) : Type 0 where
+  pub is : rest ≡ cueBytes (cueOf rest) ++ afterCue rest
+  pub valid : Valid (cueOf rest)
 
 -- ---- a book
 
@@ -51,7 +53,7 @@ followed c (cues cs) = cues (c ∷ cs)
 
 -- up to so many cues, the first with that index, and nothing after (10)
 unfoldable pub readUpTo : ℕ → ℕ → List ℕ → Reading
-unfolding cueRefusal cueOf
+unfolding cueRefusal cueOf formSize
 readUpTo zero index rest = cond (eqb (length rest) 0) (cues []) (refused 10 index)
 readUpTo (suc more) index rest =
     let rest-reads = followed (cueOf rest) (readUpTo more (suc index) (afterCue rest)) in

@@ -1,5 +1,6 @@
-// The room of the cue book (document 01, "Cue book, folding, lines"): reading cues and whole books, and showing a title.
-// It leans on `cue_fields` for a field, and on `matching` for case analysis. `cue_writer` writes a cue, and has the theorems that reading and writing are inverse.
+// This crate reads cues and whole cue books, and shows a title (document 01, "Cue book, folding, lines").
+// It depends on `cue_fields` for a field and for fields in the order of a list, and on `matching` for case analysis.
+// proofs/Values.antt has the laws that a cue written reads back, and that a cue read was so written; `cue_writer` writes one.
 use cue_fields::Due;
 use cue_fields::FieldAnswer;
 ghost use mathlib.Core.Path.{_≡_};
@@ -34,8 +35,8 @@ pub struct Part {
     pub len: usize,
 }
 
-// What a walk over a whole book has seen: the answer, and the part where the wanted cue's title stands.
-struct Seen {
+// What a walk over a whole book gives: the answer, and the part where the wanted cue's title stands.
+struct WalkAnswer {
     refusal: u32,
     number: u32,
     start: usize,
@@ -66,7 +67,7 @@ pub fn read_cue(book: &[u8], place: usize) -> CueAnswer
     let FieldAnswer::Body { start: title, end } = third else {
         return CueAnswer::Refused(cue_fields::field_number(third));
     };
-    let ordinal = cue_fields::number_at(&book[body..]) as u32;
+    let ordinal = cue_fields::number_at(&book[body..ordinal_end]) as u32;
     CueAnswer::Cue {
         phrase,
         phrase_end,
@@ -93,7 +94,7 @@ fn cue_number(answer: CueAnswer) -> u32
 }
 
 // Reads a whole book in one pass, and notes where the title of the wanted cue stands.
-fn walk(book: &[u8], wanted: u32) -> Seen
+fn walk(book: &[u8], wanted: u32) -> WalkAnswer
     ensures { λ r. ⌜ Walked (now (book .entry)) wanted r ⌝ }
 {
     let mut start = 0;
@@ -102,7 +103,7 @@ fn walk(book: &[u8], wanted: u32) -> Seen
     let mut place = 0;
     while place < book.len() {
         if index == 999 {
-            return Seen {
+            return WalkAnswer {
                 refusal: 10,
                 number: 999,
                 start: 0,
@@ -118,7 +119,7 @@ fn walk(book: &[u8], wanted: u32) -> Seen
             end,
         } = cue
         else {
-            return Seen {
+            return WalkAnswer {
                 refusal: cue_number(cue),
                 number: index,
                 start: 0,
@@ -132,7 +133,7 @@ fn walk(book: &[u8], wanted: u32) -> Seen
         index += 1;
         place = end;
     }
-    Seen {
+    WalkAnswer {
         refusal: 0,
         number: index,
         start,
@@ -162,8 +163,8 @@ pub fn title_part(book: &[u8], cue: u32) -> Part
     }
 }
 
-// The first bytes from a title's body onward.
-fn first(bytes: &[u8], len: usize) -> &[u8]
+// The first bytes of a part.
+fn first_bytes(bytes: &[u8], len: usize) -> &[u8]
     requires { ⌜ len ≤ length (now bytes) ⌝ }
     ensures { λ r. ⌜ (r .ptr ≡ bytes .entry .ptr) × (now r ≡ take len (now (bytes .entry))) ⌝ }
 {
@@ -177,5 +178,5 @@ pub fn title(book: &[u8], cue: u32) -> &[u8]
     let p = title_part(book, cue);
     let start = p.start;
     let len = p.len;
-    first(&book[start..], len)
+    first_bytes(&book[start..], len)
 }

@@ -1,3 +1,3 @@
--- The laws of a field.
+-- The laws of a field, and of fields in the order of a list.
 pub mod Fields
-pub mod Fielded
+pub mod Form

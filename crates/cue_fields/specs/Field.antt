@@ -2,10 +2,11 @@
 -- left of the book at the field.
 use mathlib.Core.Path.{_≡_}
 use Prim.Native.Nat.{ℕ, _+_, _-_, _*_, _/_, _%_}
-use mathlib.Core.Bool.{Bool, false, cond, _&&_}
+use mathlib.Core.Bool.{Bool, cond, not, _&&_}
 use mathlib.Core.List.{List, [], _∷_, _++_}
 use lib.ListN.{length, getD, take, drop}
 use lib.Dec.{eqb, ltb, leb}
+use Rattle.matching.specs.Refusals.{Test, firstMet}
 use Rattle.cue_fields.specs.declared.Due.{Due}
 use Rattle.cue_fields.specs.declared.Due.the-variants.{Phrase, Ordinal, Title}
 use Rattle.cue_fields.specs.declared.FieldAnswer.{FieldAnswer}
@@ -52,25 +53,28 @@ fieldSize rest = 3 + fieldLength rest
 abbrev pub afterField : List ℕ → List ℕ
 afterField rest = drop (fieldSize rest) rest
 
--- an ordinal of 0
-abbrev pub ordinalZero : Due → List ℕ → Bool
-ordinalZero Phrase body = false
-ordinalZero Ordinal body = eqb (numberIn body) 0
-ordinalZero Title body = false
+-- the tests of its body's value: an ordinal is not 0 (9)
+abbrev pub valueTests : Due → List ℕ → List Test
+valueTests Phrase body = []
+valueTests Ordinal body = (eqb (numberIn body) 0, 9) ∷ []
+valueTests Title body = []
 
--- the last two tests, of the bytes from the body onward: body present (7), ordinal not 0 (9)
-unfoldable pub bodyRefusal : Due → ℕ → List ℕ → ℕ
-unfolding numberIn
-bodyRefusal due n bytes = cond (ltb (length bytes) n) 7 (cond (ordinalZero due bytes) 9 0)
+-- the tests of the bytes from the body onward, for a body of n bytes: body present (7), and its value
+abbrev pub bodyTests : Due → ℕ → List ℕ → List Test
+bodyTests due n bytes = (ltb (length bytes) n, 7) ∷ valueTests due (take n bytes)
 
--- the refusal of a field, 0 for none: three header bytes present (7), tag (8), length (9), and the tests of the body
+-- the tests of a field: three header bytes present (7), tag (8), length (9), and those from the body onward
+abbrev pub fieldTests : Due → List ℕ → List Test
+fieldTests due rest =
+    (ltb (length rest) 3, 7) ∷
+    (not (eqb (getD rest 0 0) (tagOf due)), 8) ∷
+    (not (allowed due (fieldLength rest)), 9) ∷
+    bodyTests due (fieldLength rest) (drop 3 rest)
+
+-- the refusal of a field, 0 for none
 unfoldable pub fieldRefusal : Due → List ℕ → ℕ
-unfolding numberIn bodyRefusal
-fieldRefusal due rest =
-    cond (ltb (length rest) 3) 7
-    (cond (eqb (getD rest 0 0) (tagOf due))
-    (cond (allowed due (fieldLength rest)) (bodyRefusal due (fieldLength rest) (drop 3 rest)) 9)
-    8)
+unfolding numberIn firstMet
+fieldRefusal due rest = firstMet (fieldTests due rest)
 
 -- ---- the answer
 

@@ -1,2 +1,3 @@
--- A field: its bytes, and what reading it gives.
+-- A field: its bytes, and what reading it gives; and fields in the order of a list.
 pub mod Field
+pub mod Form

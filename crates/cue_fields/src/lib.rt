@@ -1,9 +1,12 @@
-// The room of a cue book's fields (document 01, "Cue book, folding, lines"): a tag, a length and a body, each tested in the document's order.
-// It leans on `matching` for case analysis alone.
+// This crate reads a field of a cue book (document 01, "Cue book, folding, lines"): a tag, a length and a body, tested in the document's order.
+// Its definitions also say what fields in the order of a list are (specs/Form.antt), and its laws that reading and writing such fields are inverse (proofs/Form.antt).
+// It depends on `matching` alone: on its tables of refusals, its parts of a slice and its case analysis.
 ghost use mathlib.Core.Path.{_≡_};
 ghost use Prim.Native.Nat.{_≤_};
 ghost use lib.Dec.{eqb};
-ghost use Rattle.cue_fields.specs.Field.{tagOf, allowed, numberIn, bodyRefusal, fieldNumber, FieldRead};
+ghost use Rattle.matching.specs.Refusals.{firstMet};
+ghost use Rattle.cue_fields.specs.declared.Due.the-variants.{Ordinal};
+ghost use Rattle.cue_fields.specs.Field.{tagOf, allowed, numberIn, valueTests, bodyTests, fieldNumber, FieldRead};
 
 // Which field of a cue is due.
 pub enum Due {
@@ -54,20 +57,35 @@ pub fn number_at(bytes: &[u8]) -> usize
     256 * (bytes[0] as usize) + bytes[1] as usize
 }
 
-// The tests of the bytes from a field's body onward: the body is present, and an ordinal is not 0.
+// The refusal of an ordinal by its body: it is not 0.
+fn ordinal_refusal(body: &[u8]) -> u32
+    ensures { λ r. ⌜ r ≡ firstMet (valueTests Ordinal (now (body .entry))) ⌝ }
+{
+    if number_at(body) == 0 {
+        return 9;
+    }
+    0
+}
+
+// The refusal of a body by its value, 0 for none.
+fn value_refusal(body: &[u8], due: Due) -> u32
+    ensures { λ r. ⌜ r ≡ firstMet (valueTests due (now (body .entry))) ⌝ }
+{
+    match due {
+        Due::Phrase => 0,
+        Due::Ordinal => ordinal_refusal(body),
+        Due::Title => 0,
+    }
+}
+
+// The tests of the bytes from a field's body onward: the body is present, and its value.
 fn body_refusal(bytes: &[u8], due: Due, length: usize) -> u32
-    ensures { λ r. ⌜ r ≡ bodyRefusal due length (now (bytes .entry)) ⌝ }
+    ensures { λ r. ⌜ r ≡ firstMet (bodyTests due length (now (bytes .entry))) ⌝ }
 {
     if bytes.len() < length {
         return 7;
     }
-    let Due::Ordinal = due else {
-        return 0;
-    };
-    if number_at(bytes) == 0 {
-        return 9;
-    }
-    0
+    value_refusal(&bytes[..length], due)
 }
 
 // Reads the field that is due at a place of a book. A place past the book's end, however large, has no byte of a field.

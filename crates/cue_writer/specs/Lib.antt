@@ -1,3 +1,3 @@
--- The writer's promise; and byte strings and books put together from written cues, of which demand 2's theorems speak.
+-- The writer's promise; and what demand 2's theorems on the cue book speak of.
 pub mod Writing
-pub mod Bytes
+pub mod Inverse

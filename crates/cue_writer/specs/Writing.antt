@@ -1,27 +1,33 @@
 -- Writing a cue (document 01, "Cue book, folding, lines"): it stands at the buffer's start, or the refusal is given.
 use mathlib.Core.Path.{_≡_}
 use Prim.Native.Nat.{ℕ}
-use mathlib.Core.Bool.{Bool, cond, _||_}
+use mathlib.Core.Bool.{Bool, cond}
 use mathlib.Core.List.{List, [], _∷_, _++_}
 use lib.ListN.{length, drop}
 use lib.Dec.{eqb, ltb}
+use Rattle.matching.specs.Refusals.{Test, firstMet}
 use Rattle.cue_book.specs.declared.Answer.{Answer}
 use Rattle.cue_fields.specs.Field.{twoBytes}
 use Rattle.cue_book.specs.Format.{Cue, cueBytes}
 
--- the refusal of a cue in a buffer of so many bytes, 0 for none: phrase of 0 bytes (2), phrase above 1,024 (3), an ordinal outside 1 to 65,535 or a title above 200 (9), longer than
--- the buffer (13)
+-- the refusals of a cue in a buffer of that capacity: a phrase of 0 bytes (2) or above 1,024 (3), an ordinal outside 1 to 65,535 or a title above 200 (9), longer than the buffer (13)
+abbrev pub writeTests : Cue → ℕ → List Test
+writeTests c capacity =
+    (eqb (length (c .phrase)) 0, 2) ∷
+    (ltb 1024 (length (c .phrase)), 3) ∷
+    (eqb (c .ordinal) 0, 9) ∷
+    (ltb 65535 (c .ordinal), 9) ∷
+    (ltb 200 (length (c .title)), 9) ∷
+    (ltb capacity (length (cueBytes c)), 13) ∷
+    []
+
 unfoldable pub writeRefusal : Cue → ℕ → ℕ
-unfolding cueBytes
-writeRefusal c room =
-    cond (eqb (length (c .phrase)) 0) 2
-    (cond (ltb 1024 (length (c .phrase))) 3
-    (cond (eqb (c .ordinal) 0 || ltb 65535 (c .ordinal) || ltb 200 (length (c .title))) 9
-    (cond (ltb room (length (cueBytes c))) 13 0)))
+unfolding firstMet cueBytes
+writeRefusal c capacity = firstMet (writeTests c capacity)
 
 -- whether it is written
 abbrev pub writes : Cue → ℕ → Bool
-writes c room = eqb (writeRefusal c room) 0
+writes c capacity = eqb (writeRefusal c capacity) 0
 
 -- what is given back, 0 and the cue's length or the refusal and 0, and the buffer afterwards: the cue's bytes at its start and the rest kept, or all as before
 pub record Written (c : Cue) (buffer : List ℕ) (r : Answer) (buffer′ : List ℕ) : Type 0 where

@@ -1,4 +1,5 @@
-// The room of writing a cue (document 01, "Cue book, folding, lines"). It leans on `cue_book` for the format, and on `pieces` for laying a cue's bytes out.
+// This crate writes a cue (document 01, "Cue book, folding, lines").
+// It depends on `cue_book` for the format, on `cue_fields` for a field's bytes, on `pieces` for laying them out, and on `matching` for its tables of refusals.
 // Demand 2 is carried by proofs/Inverse.antt: what is written reads back (`written-reads`), and what is accepted was so written (`accepted-written`).
 use cue_book::Answer;
 ghost use mathlib.Core.Path.{_≡_};
@@ -8,9 +9,9 @@ ghost use Rattle.pieces.specs.Pieces.{Laid, putAll};
 ghost use Rattle.cue_book.specs.Format.{cueWith};
 ghost use Rattle.cue_writer.specs.Writing.{writeRefusal, Written, fieldPieces};
 
-// The refusal of a cue to be written into so many bytes, 0 for none.
-fn write_refusal(phrase: &[u8], ordinal: u32, title: &[u8], room: usize) -> u32
-    ensures { λ r. ⌜ r ≡ writeRefusal (cueWith (now (phrase .entry)) ordinal (now (title .entry))) room ⌝ }
+// The refusal of a cue to be written into a buffer of so many bytes, 0 for none.
+fn write_refusal(phrase: &[u8], ordinal: u32, title: &[u8], capacity: usize) -> u32
+    ensures { λ r. ⌜ r ≡ writeRefusal (cueWith (now (phrase .entry)) ordinal (now (title .entry))) capacity ⌝ }
 {
     if phrase.len() == 0 {
         return 2;
@@ -27,7 +28,7 @@ fn write_refusal(phrase: &[u8], ordinal: u32, title: &[u8], room: usize) -> u32
     if 200 < title.len() {
         return 9;
     }
-    if room < 11 + phrase.len() + title.len() {
+    if capacity < 11 + phrase.len() + title.len() {
         return 13;
     }
     0

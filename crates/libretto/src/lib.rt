@@ -1,6 +1,6 @@
-// The C interface: each function is exported under the name that include/libretto.h gives it, and carries the exact contract of what it wraps.
-// An enum does not pass to C: the definitions of specs/Plain.antt say which numbers pass in its place.
-// It depends on `find`, `fold`, `cue_fields`, `cue_book`, `cue_writer` and `resolver`. `rt staticlib libretto` makes the archive that C and Rust link.
+// This crate is the C interface: each function is exported under the name that include/libretto.h gives it, and carries the exact contract of what it wraps.
+// An enum does not pass to C: the definitions of specs/Plain.antt say which numbers pass in its place. `rt staticlib libretto` makes the archive that C and Rust link.
+// It depends on `find`, `fold`, `cue_fields`, `cue_book`, `cue_writer` and `resolver` for what it exports, and on `matching` for a finding.
 use cue_book::Answer;
 use cue_book::CueAnswer;
 use cue_book::Part;
@@ -63,7 +63,7 @@ pub extern "C" fn libretto_fold(letter: u8) -> u8
     fold::letter(letter)
 }
 
-// The letters of a text, folded into a lent target: as many as it can hold, and their number.
+// The letters of a text, folded into a lent target: as many as it has entries, and their number.
 #[no_mangle]
 pub extern "C" fn libretto_fold_text(text: &[u8], target: &mut [u8]) -> usize
     ensures { λ _. ⌜ now (target .exit) ≡ received (now (target .entry)) (map folded (now (text .entry))) ⌝ }
@@ -71,9 +71,9 @@ pub extern "C" fn libretto_fold_text(text: &[u8], target: &mut [u8]) -> usize
 {
     fold::letters(text, target);
     let letters = text.len();
-    let most = target.len();
-    if most < letters {
-        return most;
+    let capacity = target.len();
+    if capacity < letters {
+        return capacity;
     }
     letters
 }

@@ -1,14 +1,23 @@
--- `cue_book::read_cue` meets its contract: each answer is taken apart, and a refusal leaves with its number. Assumes nothing.
+-- `cue_book::read_cue` meets its contract: each field's answer is taken apart, and a refusal leaves with its number. Assumes nothing.
 use borrow.Author.Needs.{needs}
-use mathlib.Core.Path.{sym, ap, _∙_}
-use Prim.Native.Nat.{_+_, _-_, _≤_}
+use mathlib.Core.Path.{_≡_, refl, sym, _∙_}
+use Prim.Native.Nat.{ℕ}
 use native.Mathlib.Omega.{arith}
-use lib.ListN.{length}
+use mathlib.Core.List.{List, [], _∷_}
+use lib.ListN.{drop}
+use denote.Enum.Declared as declared
+use Rattle.cue_fields.specs.declared.Due.{Due}
 use Rattle.cue_fields.specs.declared.Due.the-variants.{Phrase, Ordinal, Title}
-use Rattle.cue_fields.specs.Field.{numberIn, fieldRefusal}
-use Rattle.matching.proofs.Parts.{from-is}
-use Rattle.cue_fields.proofs.Fielded.{fielded, BodyAt, body-at, refused-some, body-inside, ordinal-two, after-at}
-use Rattle.cue_book.proofs.Cues.{cue-first, cue-second, cue-refused, first-two, cue-read}
+use Rattle.cue_fields.specs.declared.FieldAnswer.{FieldAnswer}
+use Rattle.cue_fields.proofs.FieldAnswer as answers
+use Rattle.cue_fields.specs.Field.{fieldNumber, FieldRead}
+use Rattle.cue_fields.specs.Form.{formRefusal}
+use Rattle.cue_fields.proofs.Fields.{BodyAt, body-at, refused-some, body-inside}
+use Rattle.cue_fields.proofs.Form.{form-refused, step-refusal}
+use Rattle.cue_book.specs.declared.CueAnswer.the-variants as answer
+use Rattle.cue_book.specs.Reading.{cueRefusal}
+use Rattle.cue_book.specs.Places.{CueRead}
+use Rattle.cue_book.proofs.Cues.{cue-refused, cue-read}
 use Rattle.cue_book.proofs.read_cue.Statement.{statement}
 use Rattle.cue_book.proofs.read_cue.Tie as tie
 
@@ -24,10 +33,22 @@ third-at : (k : tie.After-known-told3) → let s = k .before .before .before .be
     BodyAt (f .before .before .before .before .before .args .book .now) (s .before .second .given .0 .1 .0) Title (k .before .third .given .0 .0) (k .before .third .given .0 .1 .0)
 third-at k = body-at (k .before .before .before .read-field3 .ensures) (k .before .third .given .1)
 
--- an ordinal's body has two bytes left for it
-ordinal-left : (k : tie.After-known-told2) → let f = k .before .before .before .before in
-    k .before .second .given .0 .0 + 2 ≤ length (f .before .before .before .before .before .args .book .now)
-ordinal-left k = let b = second-at k in let i = body-inside b in omega (arith, i .0, i .1, ordinal-two (fielded Ordinal _ (b .none)))
+-- the cue's refusal is that of the fields after those read
+after-first : (k : tie.After-known-told) → let a = k .before .before .before .before .before .args in
+    cueRefusal (drop (a .place) (a .book .now)) ≡ formRefusal (Ordinal ∷ Title ∷ []) (drop (k .before .first .given .0 .1 .0) (a .book .now))
+unfolding cueRefusal
+after-first k = step-refusal (first-at k) (Ordinal ∷ Title ∷ [])
+
+after-second : (k : tie.After-known-told2) → let f = k .before .before .before .before in let a = f .before .before .before .before .before .args in
+    cueRefusal (drop (a .place) (a .book .now)) ≡ formRefusal (Title ∷ []) (drop (k .before .second .given .0 .1 .0) (a .book .now))
+after-second k = after-first (k .before .before .before .before) ∙ step-refusal (second-at k) (Title ∷ [])
+
+-- a field that was refused, after those read
+refused : {book : List ℕ} {at place : ℕ} {due : Due} {r : FieldAnswer} {number : ℕ} (dues : List Due) → cueRefusal (drop place book) ≡ formRefusal (due ∷ dues) (drop at book) → FieldRead book at due r
+    → declared.tagOf answers.the-type r ≡ 1 → number ≡ fieldNumber r → CueRead book place (answer.Refused number)
+refused {book} {at} {place} {due} dues so-far read tag e =
+    let some = refused-some read tag in
+    cue-refused book place (so-far ∙ form-refused due dues (drop at book) (sym (read .number)) some ∙ sym e) (λ z. some (sym e ∙ z))
 
 read-field-requires : tie.Need-read-field-requires
 read-field-requires c κs = search needs
@@ -42,10 +63,8 @@ field-number-requires : tie.Need-field-number-requires
 field-number-requires c κs = search needs
 
 returns : tie.Need-returns
-returns c =
-    let r = c .before .before .before in
-    let read = r .read-field .ensures in
-    cue-refused _ _ (cue-first _ (sym (read .number)) (refused-some read (c .before .before .match .keys2)) ∙ sym (c .field-number .ensures)) (λ z. refused-some read (c .before .before .match .keys2) (sym (c .field-number .ensures) ∙ z))
+unfolding cueRefusal
+returns c = refused (Ordinal ∷ Title ∷ []) refl (c .before .before .before .read-field .ensures) (c .before .before .match .keys2) (c .field-number .ensures)
 
 read-field-requires-2 : tie.Need-read-field-requires-2
 read-field-requires-2 c κs = search needs
@@ -60,12 +79,7 @@ field-number-requires-2 : tie.Need-field-number-requires-2
 field-number-requires-2 c κs = search needs
 
 returns-2 : tie.Need-returns-2
-returns-2 c =
-    let r = c .before .before .before in
-    let p = first-at (r .before) in
-    let read = r .read-field2 .ensures in
-    let some = refused-some read (c .before .before .match2 .keys2) in
-    cue-refused _ _ (cue-second _ (p .none) (ap (fieldRefusal Ordinal) (sym (after-at p)) ∙ sym (read .number)) some ∙ sym (c .field-number2 .ensures)) (λ z. some (sym (c .field-number2 .ensures) ∙ z))
+returns-2 c = let r = c .before .before .before in refused (Title ∷ []) (after-first (r .before)) (r .read-field2 .ensures) (c .before .before .match2 .keys2) (c .field-number2 .ensures)
 
 read-field-requires-3 : tie.Need-read-field-requires-3
 read-field-requires-3 c κs = search needs
@@ -80,22 +94,16 @@ field-number-requires-3 : tie.Need-field-number-requires-3
 field-number-requires-3 c κs = search needs
 
 returns-3 : tie.Need-returns-3
-returns-3 c =
-    let r = c .before .before .before in
-    let o = second-at (r .before) in
-    let p = first-at (r .before .before .before .before .before) in
-    let read = r .read-field3 .ensures in
-    let some = refused-some read (c .before .before .match3 .keys2) in
-    cue-refused _ _ (first-two p o ∙ sym (read .number) ∙ sym (c .field-number3 .ensures)) (λ z. some (sym (c .field-number3 .ensures) ∙ z))
+returns-3 c = let r = c .before .before .before in refused [] (after-second (r .before)) (r .read-field3 .ensures) (c .before .before .match3 .keys2) (c .field-number3 .ensures)
 
 sub-number-at : tie.Need-sub-number-at
-sub-number-at c = omega (arith, ordinal-left (c .before .before .before .before))
+sub-number-at c = omega (arith, body-inside (second-at (c .before .before .before .before)) .0, body-inside (third-at c) .0)
 
 part-number-at-start : tie.Need-part-number-at-start
-part-number-at-start c = omega (arith, ordinal-left (c .before .before .before .before))
+part-number-at-start c = omega (arith, body-inside (second-at (c .before .before .before .before)) .0, body-inside (third-at c) .0)
 
 part-number-at-end : tie.Need-part-number-at-end
-part-number-at-end c = search needs
+part-number-at-end c = omega (arith, body-inside (second-at (c .before .before .before .before)) .1, body-inside (third-at c) .1)
 
 number-at-requires : tie.Need-number-at-requires
 number-at-requires c κs = search needs
@@ -107,9 +115,7 @@ returns-4 : tie.Need-returns-4
 returns-4 c =
     let k = c .before .before in
     let s = k .before .before .before .before in
-    let f = s .before .before .before .before in
-    let book = f .before .before .before .before .before .args .book .now in
-    cue-read (first-at f) (second-at s) (third-at k) (c .number-at .ensures .0 ∙ ap numberIn (from-is book (s .before .second .given .0 .0)))
+    cue-read (first-at (s .before .before .before .before)) (second-at s) (third-at k) (c .number-at .ensures .0)
 
 pub read-cue-spec : {M : Type 1} → statement M
 read-cue-spec =

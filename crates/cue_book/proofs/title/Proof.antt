@@ -19,17 +19,17 @@ inside p = placed-inside (p .title-part .ensures)
 title-part-requires : tie.Need-title-part-requires
 title-part-requires c κs = search needs
 
-sub-first : tie.Need-sub-first
-sub-first c = omega (arith, inside c)
+sub-first-bytes : tie.Need-sub-first-bytes
+sub-first-bytes c = omega (arith, inside c)
 
-part-first-start : tie.Need-part-first-start
-part-first-start c = omega (arith, inside c)
+part-first-bytes-start : tie.Need-part-first-bytes-start
+part-first-bytes-start c = omega (arith, inside c)
 
-part-first-end : tie.Need-part-first-end
-part-first-end c = search needs
+part-first-bytes-end : tie.Need-part-first-bytes-end
+part-first-bytes-end c = search needs
 
-first-requires : tie.Need-first-requires
-first-requires c κs =
+first-bytes-requires : tie.Need-first-bytes-requires
+first-bytes-requires c κs =
     let p = c .before in
     let book = p .before .before .args .book .now in
     let start = p .title-part .result .start in
@@ -42,9 +42,9 @@ returns c =
     let r = p .title-part .result in
     let is = p .title-part .ensures .answer in
     let on : r .start + book .ptr .1 ≡ book .ptr .1 + r .start = omega arith in
-    let shown = c .first .ensures .1 ∙ ap (λ (l : List ℕ). take (r .len) l) (from-is (book .now) (r .start)) in
+    let shown = c .first-bytes .ensures .1 ∙ ap (λ (l : List ℕ). take (r .len) l) (from-is (book .now) (r .start)) in
     record {
-      starts = c .first .ensures .0 ∙ ap (λ (n : ℕ). (book .ptr .0, n)) (on ∙ ap (λ (q : Part). book .ptr .1 + q .start) is);
+      starts = c .first-bytes .ensures .0 ∙ ap (λ (n : ℕ). (book .ptr .0, n)) (on ∙ ap (λ (q : Part). book .ptr .1 + q .start) is);
       long = ap length shown ∙ length-take-le (r .len) (drop (r .start) (book .now)) (omega (arith, inside p, length-drop (r .start) (book .now))) ∙ ap (λ (q : Part). q .len) is;
       shows = shown ∙ p .title-part .ensures .shows;
     }
@@ -52,4 +52,4 @@ returns c =
 pub title-spec : {M : Type 1} → statement M
 title-spec =
     tie.close
-    (tie.spec title-part-requires sub-first part-first-start part-first-end first-requires returns)
+    (tie.spec title-part-requires sub-first-bytes part-first-bytes-start part-first-bytes-end first-bytes-requires returns)

@@ -1,4 +1,4 @@
--- `cue_book::walk` meets its contract. The loop's invariant: the cues read so far, and what the rest reads as, are the whole book (`Along`), and the wanted cue's title is noted once it
+-- `cue_book::walk` meets its contract. The loop's invariant: the cues read so far, and what the rest reads as, are the whole book (`ReadSoFar`), and the wanted cue's title is noted once it
 -- has been passed (`Noted`). Assumes nothing.
 use borrow.Author.Needs.{needs}
 use mathlib.Core.Path.{_≡_, sym, ap, ap₂, _∙_}
@@ -7,15 +7,15 @@ use Prim.Native.Nat.{ℕ, _-_, _<_}
 use native.Mathlib.Omega.{arith}
 use mathlib.Core.List.{List}
 use lib.ListN.{length}
-use Rattle.cue_book.specs.Reading.{refused, cues, readBook, refusalOf, numberOf}
+use Rattle.cue_book.specs.Reading.{refused, readBook, refusalOf, numberOf}
 use Rattle.cue_book.specs.Walking.{Walked}
-use Rattle.cue_book.proofs.Cues.{CueAt, cue-at, cue-refused-some}
-use Rattle.cue_book.proofs.Books.{Along, along-first, along-over, along-refused, along-next, along-end, Noted, noted-first, noted-other, noted-this, title-inside, part-refused, part-cues}
+use Rattle.cue_book.proofs.Cues.{CueAt, cue-at, cue-refused-some, title-ends}
+use Rattle.cue_book.proofs.Books.{ReadSoFar, so-far-first, so-far-over, so-far-refused, so-far-next, so-far-end, Noted, noted-first, noted-other, noted-this, part-refused, part-cues}
 use Rattle.cue_book.proofs.walk.Statement.{statement}
 use Rattle.cue_book.proofs.walk.Tie as tie
 
 abbrev Inv-loop : tie.InvT-loop
-Inv-loop book wanted start₀ len₀ index₀ place₀ start len index place = Along book index place × Noted book wanted index (record { start = start; len = len })
+Inv-loop book wanted start₀ len₀ index₀ place₀ start len index place = ReadSoFar book index place × Noted book wanted index (record { start = start; len = len })
 
 abbrev μ-loop : tie.MeasureT-loop
 μ-loop book wanted start₀ len₀ index₀ place₀ start len index place = length book - place
@@ -34,12 +34,12 @@ this : (k : tie.After-known-told Inv-loop μ-loop) → let g = k .before .cue .g
 this k = cue-at (k .before .before .before .read-cue .ensures) (k .before .cue .given .1)
 
 loop-holds : tie.Need-loop-holds Inv-loop μ-loop
-loop-holds c = (along-first (c .before .args .book .now), noted-first (c .before .args .book .now) (c .before .args .wanted))
+loop-holds c = (so-far-first (c .before .args .book .now), noted-first (c .before .args .book .now) (c .before .args .wanted))
 
 returns : tie.Need-returns Inv-loop μ-loop
 returns c =
     let l = c .before .before in
-    let e = along-over (l .loop .inv .0) (c .before .loop-test .taken) (c .if1 .taken) in
+    let e = so-far-over (l .loop .inv .0) (c .before .loop-test .taken) (c .if1 .taken) in
     none-shown e
 
 read-cue-requires : tie.Need-read-cue-requires Inv-loop μ-loop
@@ -61,16 +61,16 @@ returns-2 c =
     let l = t .before .before in
     let read = r .read-cue .ensures in
     let some = cue-refused-some read (c .before .before .match .keys2) in
-    none-shown (along-refused (l .loop .inv .0) (t .before .loop-test .taken) (below t) (sym (read .number) ∙ sym (c .cue-number .ensures)) (λ z. some (sym (c .cue-number .ensures) ∙ z)))
+    none-shown (so-far-refused (l .loop .inv .0) (t .before .loop-test .taken) (below t) (sym (read .number) ∙ sym (c .cue-number .ensures)) (λ z. some (sym (c .cue-number .ensures) ∙ z)))
 
 sub-len : tie.Need-sub-len Inv-loop μ-loop
-sub-len c = let k = c .before in title-inside (k .before .before .before .before .before .before .loop .inv .0) (this k)
+sub-len c = omega (arith, title-ends (this (c .before)) .0)
 
 add-index : tie.Need-add-index Inv-loop μ-loop
 add-index c = omega (arith, c .before .before .before .before .before .before .before .loop .inv .0 .left)
 
 loop-less : tie.Need-loop-less Inv-loop μ-loop
-loop-less c = let k = c .before in let l = k .before .before .before .before .before .before in omega (arith, this k .end-is, k .before .before .before .before .before .loop-test .taken)
+loop-less c = let k = c .before in omega (arith, title-ends (this k) .1, k .before .before .before .before .before .loop-test .taken)
 
 loop-again : tie.Need-loop-again Inv-loop μ-loop
 loop-again c =
@@ -79,7 +79,7 @@ loop-again c =
     let l = e .before .before in
     let a = l .loop .inv .0 in
     let t = this k in (
-      along-next a (e .before .loop-test .taken) (below e) (t .none) (t .end-is),
+      so-far-next a (e .before .loop-test .taken) (below e) (t .none) (t .end-is),
       ⊎-elim
           (λ w. record { is = ap₂ (λ (s n : ℕ). record { start = s; len = n }) (w .1) (w .2) ∙ noted-this a t (w .0 .taken) .is })
           (λ w. record { is = ap₂ (λ (s n : ℕ). record { start = s; len = n }) (w .1) (w .2) ∙ noted-other (w .0 .left) (l .loop .inv .1) .is })
@@ -90,7 +90,7 @@ returns-3 : tie.Need-returns-3 Inv-loop μ-loop
 returns-3 c =
     let l = c .before in
     let a = l .loop .inv .0 in
-    let e = along-end a (c .loop-test .left) in
+    let e = so-far-end a (c .loop-test .left) in
     record {
       refusal = sym (ap refusalOf e);
       number = sym (ap numberOf e ∙ a .counted);

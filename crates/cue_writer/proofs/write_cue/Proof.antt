@@ -4,9 +4,9 @@ use mathlib.Core.Path.{sym, _∙_}
 use native.Mathlib.Omega.{arith}
 use lib.ListN.{length}
 use Rattle.pieces.specs.Pieces.{Laid, putAll}
-use Rattle.pieces.proofs.Laid.{laid-then}
+use Rattle.pieces.proofs.Laid.{laid-none, laid-then}
 use Rattle.cue_book.specs.Format.{cueWith}
-use Rattle.cue_writer.proofs.Writing.{Fitting, fitting, cue-length, cuePieces, written-refused, laid-cue, written-whole}
+use Rattle.cue_writer.proofs.Writing.{Fitting, fitting, cue-length, formPieces, cuePieces, written-refused, laid-cue, written-whole}
 use Rattle.cue_writer.proofs.write_cue.Statement.{statement}
 use Rattle.cue_writer.proofs.write_cue.Tie as tie
 
@@ -18,10 +18,11 @@ fits e = fitting _ _ (sym (e .before .write-refusal .ensures) ∙ e .if1 .left)
 laid : (f : tie.After-put-field3) → let e = f .before .before .before .before .before .before .before .before .before .before .before in
     let a = e .before .before .before .before .before .args in
     Laid (f .put-field3 .last .0) (f .put-field3 .result) (putAll (a .buffer .now) 0 (cuePieces (cueWith (a .phrase .now) (a .ordinal) (a .title .now))))
+unfolding formPieces
 laid f =
     let o = f .before .before .before .before in
     let p = o .before .before .before .before .before in
-    laid-then _ _ _ _ (p .put-field .ensures) (laid-then _ _ _ _ (o .put-field2 .ensures) (f .put-field3 .ensures))
+    laid-then _ _ _ _ (p .put-field .ensures) (laid-then _ _ _ _ (o .put-field2 .ensures) (laid-then _ _ _ _ (f .put-field3 .ensures) (laid-none _ _)))
 
 write-refusal-requires : tie.Need-write-refusal-requires
 write-refusal-requires c κs = search needs

@@ -2,7 +2,7 @@
 use borrow.Author.Needs.{needs}
 use mathlib.Core.Path.{sym, ap, _∙_}
 use native.Mathlib.Omega.{arith}
-use Rattle.cue_book.proofs.Cues.{cue-at}
+use Rattle.cue_book.proofs.Cues.{cue-at, title-ends}
 use Rattle.libretto.specs.Plain.{cuePassed}
 use Rattle.libretto.proofs.libretto_read_cue.Statement.{statement}
 use Rattle.libretto.proofs.libretto_read_cue.Tie as tie
@@ -17,7 +17,7 @@ sub-t11 : tie.Need-sub-t11
 sub-t11 c = let there = cue-at (c .before .before .before .read-cue .ensures) (c .before .answer .given .1) in omega arith
 
 sub-t12 : tie.Need-sub-t12
-sub-t12 c = let there = cue-at (c .before .before .before .read-cue .ensures) (c .before .answer .given .1) in omega arith
+sub-t12 c = let there = title-ends (cue-at (c .before .before .before .read-cue .ensures) (c .before .answer .given .1)) in omega arith
 
 enum-known-answer-2 : tie.Need-enum-known-answer-2
 enum-known-answer-2 c = search needs

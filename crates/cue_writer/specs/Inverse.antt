@@ -1,15 +1,11 @@
--- Byte strings, and books put together from written cues: what demand 2's theorems on the cue book speak of.
+-- What demand 2's theorems on the cue book speak of: books put together from written cues, and byte strings that are the bytes of valid cues.
 use mathlib.Core.Path.{_≡_}
-use Prim.Native.Nat.{ℕ, _<_}
+use Prim.Native.Nat.{ℕ, _≤_}
 use mathlib.Core.List.{List, [], _∷_}
-use lib.ListN.{getD, take}
+use lib.ListN.{length, take}
 use Rattle.cue_book.specs.declared.Answer.{Answer}
-use Rattle.cue_book.specs.Format.{Cue}
+use Rattle.cue_book.specs.Format.{Cue, bookBytes, AllValid}
 use Rattle.cue_writer.specs.Writing.{Written}
-
--- every letter is a byte
-abbrev pub Bytes : List ℕ → Type 0
-Bytes l = (i : ℕ) → getD l i 0 < 256
 
 -- these are the bytes that writing the cue put at the start of some buffer
 pub record WroteCue (c : Cue) (bytes : List ℕ) : Type 0 where
@@ -26,3 +22,9 @@ Assembled [] [] = Unit {0}
 Assembled [] (bytes ∷ pieces) = ⊥
 Assembled (c ∷ cs) [] = ⊥
 Assembled (c ∷ cs) (bytes ∷ pieces) = WroteCue c bytes × Assembled cs pieces
+
+-- a byte string is the bytes of these cues, which are valid and at most so many
+pub record Accepted (book : List ℕ) (cs : List Cue) (most : ℕ) : Type 0 where
+  pub is : book ≡ bookBytes cs
+  pub valid : AllValid cs
+  pub few : length cs ≤ most

@@ -1,0 +1,32 @@
+-- `cue_fields::value_refusal` meets its contract: each arm is a clause of the definition. Assumes nothing.
+use borrow.Author.Needs.{needs}
+use mathlib.Core.Path.{_∙_}
+use Rattle.matching.specs.Refusals.{firstMet}
+use Rattle.cue_fields.proofs.value_refusal.Statement.{statement}
+use Rattle.cue_fields.proofs.value_refusal.Tie as tie
+
+enum-told : tie.Need-enum-told
+enum-told c = search needs
+
+enum-told-2 : tie.Need-enum-told-2
+enum-told-2 c = search needs
+
+ordinal-refusal-requires : tie.Need-ordinal-refusal-requires
+ordinal-refusal-requires c κs = search needs
+
+enum-told-3 : tie.Need-enum-told-3
+enum-told-3 c = search needs
+
+returns : tie.Need-returns
+unfolding firstMet
+returns c = rw (c .enum-told .given .1)
+
+returns-2 : tie.Need-returns-2
+returns-2 c = c .ordinal-refusal .ensures ∙ rw (c .before .enum-told2 .given .1)
+
+returns-3 : tie.Need-returns-3
+unfolding firstMet
+returns-3 c = rw (c .enum-told3 .given .1)
+
+pub value-refusal-spec : {M : Type 1} → statement M
+value-refusal-spec = tie.close (tie.spec enum-told enum-told-2 ordinal-refusal-requires enum-told-3 returns returns-2 returns-3)
