@@ -6,7 +6,7 @@ use native.Mathlib.Numerals.{add-one}
 use mathlib.Core.Bool.{cond}
 use mathlib.Core.List.{List, [], _∷_, _++_, append-nil}
 use lib.ListN.{length, getD, take, drop, length-drop, length-append}
-use lib.Seq.{drop-drop, getD-append-seam}
+use lib.Seq.{getD-append-seam}
 use lib.Dec.{eqb, ltb}
 use borrow.Author.Tests.{eq-eqb, ne-eqb, eqb-true, eqb-false, lt-ltb, le-ltb, ltb-true, ltb-false}
 use Rattle.matching.proofs.Tests.{by-test}
@@ -162,10 +162,6 @@ accepted-book book z = by-reading (readBook book) refl
 
 -- ---- where cues and titles stand
 
--- what is left after the cue at a place of the book
-after-at-cue : (book : List ℕ) (place : ℕ) → drop (place + cueSize (drop place book)) book ≡ afterCue (drop place book)
-after-at-cue book place = after-field book place (cueSize (drop place book))
-
 -- the first cue left out, the others stand where they did
 pub place-next : (rest : List ℕ) (k : ℕ) → cuePlace rest (suc k) ≡ cueSize rest + cuePlace (afterCue rest) k
 unfolding cuePlace
@@ -173,12 +169,12 @@ place-next rest zero = omega arith
 place-next rest (suc k) =
     let on = place-next rest k in
     let p : ℕ = cuePlace (afterCue rest) k in
-    let here : drop (cuePlace rest (suc k)) rest ≡ drop p (afterCue rest) = ap (λ (n : ℕ). drop n rest) on ∙ sym (drop-drop p (cueSize rest) rest) in
+    let here : drop (cuePlace rest (suc k)) rest ≡ drop p (afterCue rest) = ap (λ (n : ℕ). drop n rest) on ∙ after-field rest (cueSize rest) p in
     omega (arith, on, ap cueSize here)
 
 -- what is left at the cue of an index
 pub left-next : (rest : List ℕ) (k : ℕ) → drop (cuePlace rest (suc k)) rest ≡ drop (cuePlace (afterCue rest) k) (afterCue rest)
-left-next rest k = ap (λ (n : ℕ). drop n rest) (place-next rest k) ∙ sym (drop-drop (cuePlace (afterCue rest) k) (cueSize rest) rest)
+left-next rest k = ap (λ (n : ℕ). drop n rest) (place-next rest k) ∙ after-field rest (cueSize rest) (cuePlace (afterCue rest) k)
 
 -- at the place of a cue that was read, that cue is read
 pub record There (rest : List ℕ) (k : ℕ) (c : Cue) : Type 0 where
@@ -258,7 +254,7 @@ left-first {book} {index} {place} {c} {later} l =
           record {
             more = b .fewer;
             count = omega (arith, l .count, b .fewer-is);
-            reads = ap₂ (λ (i : ℕ) (x : List ℕ). readUpTo (b .fewer) i x) (add-one index) (ap (λ (k : ℕ). drop k book) e ∙ after-at-cue book place) ∙ b .then;
+            reads = ap₂ (λ (i : ℕ) (x : List ℕ). readUpTo (b .fewer) i x) (add-one index) (ap (λ (k : ℕ). drop k book) e ∙ after-field book place (cueSize (drop place book))) ∙ b .then;
           };
     }
 
@@ -323,7 +319,7 @@ module _ {book : List ℕ} {index place : ℕ} (a : ReadSoFar book index place) 
   so-far-next {next} h n e p =
       let m : a .more ≡ suc (a .more - 1) = omega (arith, a .left) in
       let c = cueOf (drop place book) in
-      let rest : drop next book ≡ afterCue (drop place book) = ap (λ (k : ℕ). drop k book) p ∙ after-at-cue book place in
+      let rest : drop next book ≡ afterCue (drop place book) = ap (λ (k : ℕ). drop k book) p ∙ after-field book place (cueSize (drop place book)) in
       record {
         done = a .done ++ c ∷ [];
         counted = length-append (a .done) (c ∷ []) ∙ omega (arith, a .counted);

@@ -16,7 +16,7 @@ use Rattle.cue_fields.specs.Field.{twoBytes, numberIn, valueTests, fieldSize, f
 use Rattle.cue_fields.specs.Form.{formBodies, formBytes, Sound, AllSound, Bytes}
 use Rattle.cue_fields.proofs.Form.{two-number, form-back, form-put, bytes-drop, body-bytes}
 use Rattle.cue_book.specs.Format.{Cue, cueWith, cueForm, cueBodies, cueFrom, cueBytes, Valid}
-use Rattle.cue_book.specs.Reading.{cueRefusal, cueOf, afterCue, Back, Put}
+use Rattle.cue_book.specs.Reading.{cueRefusal, cueOf, afterCue, CueReadsBack, CueWasWritten}
 
 -- ---- a valid cue, by its bodies
 
@@ -33,7 +33,7 @@ valid-sound c v =
     (phrase, (ordinal, (title, tt)))
 
 -- its bytes, before anything, read back as that cue
-pub cue-back : (c : Cue) → Valid c → (more : List ℕ) → Back c more
+pub cue-back : (c : Cue) → Valid c → (more : List ℕ) → CueReadsBack c more
 unfolding cueBytes cueOf cueRefusal
 cue-back c v more =
     let f = form-back cueForm (cueBodies c) (valid-sound c v) more in
@@ -84,7 +84,7 @@ sound-valid phrase ordinal title b s =
     }
 
 -- a byte string that a cue is read from is the bytes of that cue, and what is left
-pub cue-put : (rest : List ℕ) → Bytes rest → cueRefusal rest ≡ 0 → Put rest
+pub cue-put : (rest : List ℕ) → Bytes rest → cueRefusal rest ≡ 0 → CueWasWritten rest
 unfolding cueBytes cueOf cueRefusal formBodies
 cue-put rest b e =
     let f = form-put cueForm rest b e in

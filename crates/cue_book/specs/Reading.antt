@@ -29,13 +29,13 @@ unfolding formBodies numberIn
 cueOf rest = cueFrom (formBodies cueForm rest)
 
 -- what is written reads back: its bytes, before anything, are not refused, are read as that cue, and leave the rest
-pub record Back (c : Cue) (more : List ℕ) : Type 0 where
+pub record CueReadsBack (c : Cue) (more : List ℕ) : Type 0 where
   pub none : cueRefusal (cueBytes c ++ more) ≡ 0
   pub value : cueOf (cueBytes c ++ more) ≡ c
   pub after : afterCue (cueBytes c ++ more) ≡ more
 
 -- what is accepted was so written: it is the bytes of the cue that it is read as, which is valid, and what is left
-pub record Put (rest : List ℕ) : Type 0 where
+pub record CueWasWritten (rest : List ℕ) : Type 0 where
   pub is : rest ≡ cueBytes (cueOf rest) ++ afterCue rest
   pub valid : Valid (cueOf rest)
 

@@ -12,7 +12,7 @@ use Rattle.matching.specs.Refusals.{firstMet}
 use Rattle.matching.proofs.Tests.{by-test, cond-most}
 use Rattle.cue_fields.specs.declared.Due.{Due}
 use Rattle.cue_fields.specs.Field.{twoBytes, fieldBytes, tagOf, allowed, numberIn, valueTests, fieldLength, fieldSize, fieldBody, afterField, fieldRefusal, part}
-use Rattle.cue_fields.specs.Form.{formRefusal, formSize, afterForm, formBodies, formBytes, Sound, AllSound, Bytes, FormBack, FormPut}
+use Rattle.cue_fields.specs.Form.{formRefusal, formSize, afterForm, formBodies, formBytes, Sound, AllSound, Bytes, FormReadsBack, FormWasWritten}
 use Rattle.cue_fields.proofs.Fields.{field-most, Fielded, fielded, field-fine, after-field, BodyAt}
 
 -- ---- the refusal of some fields by its cases, and what is left after them
@@ -88,7 +88,7 @@ module _ (due : Due) (body more : List ℕ) where
         value = ap (λ (l : List ℕ). firstMet (valueTests due l)) field-body-back ∙ s .value;
       }
 
-pub form-back : (dues : List Due) (bodies : List (List ℕ)) → AllSound dues bodies → (more : List ℕ) → FormBack dues bodies more
+pub form-back : (dues : List Due) (bodies : List (List ℕ)) → AllSound dues bodies → (more : List ℕ) → FormReadsBack dues bodies more
 unfolding AllSound formBytes formBodies formSize formRefusal
 form-back [] [] s more = record { none = refl; are = refl; after = refl }
 form-back [] (body ∷ bodies) s more = absurd s
@@ -139,7 +139,7 @@ field-written due (x ∷ y ∷ z ∷ l) b f =
       long,
     )
 
-pub form-put : (dues : List Due) (rest : List ℕ) → Bytes rest → formRefusal dues rest ≡ 0 → FormPut dues rest
+pub form-put : (dues : List Due) (rest : List ℕ) → Bytes rest → formRefusal dues rest ≡ 0 → FormWasWritten dues rest
 unfolding AllSound formBytes formBodies formSize
 form-put [] rest b e = record { is = refl; sound = tt }
 form-put (due ∷ dues) rest b e =

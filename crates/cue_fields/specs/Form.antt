@@ -54,19 +54,19 @@ AllSound [] (body ∷ bodies) = ⊥
 AllSound (due ∷ dues) [] = ⊥
 AllSound (due ∷ dues) (body ∷ bodies) = Sound due body × AllSound dues bodies
 
--- every letter is a byte
-abbrev pub Bytes : List ℕ → Type 0
-Bytes l = (i : ℕ) → getD l i 0 < 256
-
 -- ---- the two are inverse
 
 -- what is written reads back: fields with these bodies, before anything, are not refused, these are their bodies, and the rest is what is left
-pub record FormBack (dues : List Due) (bodies : List (List ℕ)) (more : List ℕ) : Type 0 where
+pub record FormReadsBack (dues : List Due) (bodies : List (List ℕ)) (more : List ℕ) : Type 0 where
   pub none : formRefusal dues (formBytes dues bodies ++ more) ≡ 0
   pub are : formBodies dues (formBytes dues bodies ++ more) ≡ bodies
   pub after : afterForm dues (formBytes dues bodies ++ more) ≡ more
 
+-- every letter is a byte
+abbrev pub Bytes : List ℕ → Type 0
+Bytes l = (i : ℕ) → getD l i 0 < 256
+
 -- what is accepted was so written: it is the bytes of its bodies, which are sound, and what is left
-pub record FormPut (dues : List Due) (rest : List ℕ) : Type 0 where
+pub record FormWasWritten (dues : List Due) (rest : List ℕ) : Type 0 where
   pub is : rest ≡ formBytes dues (formBodies dues rest) ++ afterForm dues rest
   pub sound : AllSound dues (formBodies dues rest)

@@ -1,10 +1,10 @@
 -- `cue_book::read_cue` meets its contract: each field's answer is taken apart, and a refusal leaves with its number. Assumes nothing.
 use borrow.Author.Needs.{needs}
 use mathlib.Core.Path.{_≡_, refl, sym, _∙_}
-use Prim.Native.Nat.{ℕ}
+use Prim.Native.Nat.{ℕ, _≤_}
 use native.Mathlib.Omega.{arith}
 use mathlib.Core.List.{List, [], _∷_}
-use lib.ListN.{drop}
+use lib.ListN.{length, drop}
 use denote.Enum.Declared as declared
 use Rattle.cue_fields.specs.declared.Due.{Due}
 use Rattle.cue_fields.specs.declared.Due.the-variants.{Phrase, Ordinal, Title}
@@ -21,7 +21,7 @@ use Rattle.cue_book.proofs.Cues.{cue-refused, cue-read}
 use Rattle.cue_book.proofs.read_cue.Statement.{statement}
 use Rattle.cue_book.proofs.read_cue.Tie as tie
 
--- the phrase, the ordinal and the title were read
+-- the phrase and the ordinal were read
 first-at : (k : tie.After-known-told) → let a = k .before .before .before .before .before .args in BodyAt (a .book .now) (a .place) Phrase (k .before .first .given .0 .0) (k .before .first .given .0 .1 .0)
 first-at k = body-at (k .before .before .before .read-field .ensures) (k .before .first .given .1)
 
@@ -29,9 +29,10 @@ second-at : (k : tie.After-known-told2) → let f = k .before .before .before .b
     BodyAt (f .before .before .before .before .before .args .book .now) (f .before .first .given .0 .1 .0) Ordinal (k .before .second .given .0 .0) (k .before .second .given .0 .1 .0)
 second-at k = body-at (k .before .before .before .read-field2 .ensures) (k .before .second .given .1)
 
-third-at : (k : tie.After-known-told3) → let s = k .before .before .before .before in let f = s .before .before .before .before in
-    BodyAt (f .before .before .before .before .before .args .book .now) (s .before .second .given .0 .1 .0) Title (k .before .third .given .0 .0) (k .before .third .given .0 .1 .0)
-third-at k = body-at (k .before .before .before .read-field3 .ensures) (k .before .third .given .1)
+-- the title lies in the book
+title-inside : (k : tie.After-known-told3) → let f = k .before .before .before .before .before .before .before .before in
+    (k .before .third .given .0 .0 ≤ k .before .third .given .0 .1 .0) × (k .before .third .given .0 .1 .0 ≤ length (f .before .before .before .before .before .args .book .now))
+title-inside k = body-inside (body-at (k .before .before .before .read-field3 .ensures) (k .before .third .given .1))
 
 -- the cue's refusal is that of the fields after those read
 after-first : (k : tie.After-known-told) → let a = k .before .before .before .before .before .args in
@@ -97,13 +98,13 @@ returns-3 : tie.Need-returns-3
 returns-3 c = let r = c .before .before .before in refused [] (after-second (r .before)) (r .read-field3 .ensures) (c .before .before .match3 .keys2) (c .field-number3 .ensures)
 
 sub-number-at : tie.Need-sub-number-at
-sub-number-at c = omega (arith, body-inside (second-at (c .before .before .before .before)) .0, body-inside (third-at c) .0)
+sub-number-at c = omega (arith, body-inside (second-at (c .before .before .before .before)) .0, title-inside c .0)
 
 part-number-at-start : tie.Need-part-number-at-start
-part-number-at-start c = omega (arith, body-inside (second-at (c .before .before .before .before)) .0, body-inside (third-at c) .0)
+part-number-at-start c = omega (arith, body-inside (second-at (c .before .before .before .before)) .0, title-inside c .0)
 
 part-number-at-end : tie.Need-part-number-at-end
-part-number-at-end c = omega (arith, body-inside (second-at (c .before .before .before .before)) .1, body-inside (third-at c) .1)
+part-number-at-end c = omega (arith, body-inside (second-at (c .before .before .before .before)) .1, title-inside c .1)
 
 number-at-requires : tie.Need-number-at-requires
 number-at-requires c κs = search needs
@@ -115,7 +116,7 @@ returns-4 : tie.Need-returns-4
 returns-4 c =
     let k = c .before .before in
     let s = k .before .before .before .before in
-    cue-read (first-at (s .before .before .before .before)) (second-at s) (third-at k) (c .number-at .ensures .0)
+    cue-read (first-at (s .before .before .before .before)) (second-at s) (body-at (k .before .before .before .read-field3 .ensures) (k .before .third .given .1)) (c .number-at .ensures .0)
 
 pub read-cue-spec : {M : Type 1} → statement M
 read-cue-spec =
