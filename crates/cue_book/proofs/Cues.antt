@@ -12,7 +12,8 @@ use Rattle.cue_fields.specs.declared.Due.the-variants.{Phrase, Ordinal, Title}
 use Rattle.cue_fields.specs.Field.{numberIn, fieldLength, fieldSize, fieldBody, afterField, part}
 use Rattle.cue_fields.specs.Form.{formSize, afterForm, formBodies}
 use Rattle.cue_fields.proofs.Fields.{Fielded, BodyAt, told-apart, firstOf}
-use Rattle.cue_fields.proofs.Form.{form-none, form-fine, form-most, form-inside, after-next, step-refusal, step-size, step-bodies}
+use Rattle.cue_fields.proofs.Form.{form-none, form-fine, form-most, form-inside, after-next}
+use Rattle.cue_fields.proofs.Steps.{step-refusal, step-size, step-bodies}
 use Rattle.cue_book.specs.declared.CueAnswer.{CueAnswer}
 use Rattle.cue_book.specs.declared.CueAnswer.the-variants as answer
 use Rattle.cue_book.proofs.CueAnswer as answers

@@ -1,5 +1,5 @@
--- Fields in the order of a list: what is written reads back (`form-back`), what is accepted was so written (`form-put`), and how a book is read field by field (`step-refusal`,
--- `step-size`, `step-bodies`). Each holds for any list of fields. Assumes nothing.
+-- Fields in the order of a list: the first refusal among them by its cases, what is written reads back (`form-back`), and what is accepted was so written (`form-put`). Each holds for any
+-- list of fields. Assumes nothing.
 use mathlib.Core.Path.{_≡_, refl, sym, ap, ap₂, _∙_}
 use Prim.Native.Nat.{ℕ, zero, suc, _+_, _*_, _/_, _%_, _≤_, _<_}
 use native.Mathlib.Omega.{arith}
@@ -11,9 +11,9 @@ use borrow.Author.Tests.{eq-eqb, ne-eqb, eqb-true, eqb-false}
 use Rattle.matching.specs.Refusals.{firstMet}
 use Rattle.matching.proofs.Tests.{by-test, cond-most}
 use Rattle.cue_fields.specs.declared.Due.{Due}
-use Rattle.cue_fields.specs.Field.{twoBytes, fieldBytes, tagOf, allowed, numberIn, valueTests, fieldLength, fieldSize, fieldBody, afterField, fieldRefusal, part}
+use Rattle.cue_fields.specs.Field.{twoBytes, fieldBytes, tagOf, allowed, numberIn, valueTests, fieldLength, fieldSize, fieldBody, afterField, fieldRefusal}
 use Rattle.cue_fields.specs.Form.{formRefusal, formSize, afterForm, formBodies, formBytes, Sound, AllSound, Bytes, FormReadsBack, FormWasWritten}
-use Rattle.cue_fields.proofs.Fields.{field-most, Fielded, fielded, field-fine, after-field, BodyAt}
+use Rattle.cue_fields.proofs.Fields.{field-most, Fielded, fielded, field-fine}
 
 -- ---- the refusal of some fields by its cases, and what is left after them
 
@@ -155,21 +155,3 @@ form-put (due ∷ dues) rest b e =
           ∙ sym (append-assoc first later (afterForm (due ∷ dues) rest));
       sound = (record { lengths = ap (allowed due) (w .1) ∙ f .0 .lengths; value = f .0 .value }, l .sound);
     }
-
--- ---- a book read field by field: each step moves the place, and the fields that are left are read there
-
-module _ {book : List ℕ} {place : ℕ} {due : Due} {start end : ℕ} (b : BodyAt book place due start end) where
-  step-rest : drop end book ≡ afterField (drop place book)
-  step-rest = ap (λ (k : ℕ). drop k book) (b .end-is) ∙ after-field book place (fieldSize (drop place book))
-
-  module _ (dues : List Due) where
-    pub step-refusal : formRefusal (due ∷ dues) (drop place book) ≡ formRefusal dues (drop end book)
-    step-refusal = form-next due dues (drop place book) (b .none) ∙ ap (formRefusal dues) (sym step-rest)
-
-    pub step-size : place + formSize (due ∷ dues) (drop place book) ≡ end + formSize dues (drop end book)
-    unfolding formSize
-    step-size = omega (arith, b .end-is, ap (formSize dues) step-rest)
-
-    pub step-bodies : formBodies (due ∷ dues) (drop place book) ≡ part book start end ∷ formBodies dues (drop end book)
-    unfolding formBodies
-    step-bodies = ap₂ (λ (x : List ℕ) (l : List (List ℕ)). x ∷ l) (sym (b .body)) (ap (formBodies dues) (sym step-rest))

@@ -13,7 +13,8 @@ use Rattle.cue_fields.proofs.FieldAnswer as answers
 use Rattle.cue_fields.specs.Field.{fieldNumber, FieldRead}
 use Rattle.cue_fields.specs.Form.{formRefusal}
 use Rattle.cue_fields.proofs.Fields.{BodyAt, body-at, refused-some, body-inside}
-use Rattle.cue_fields.proofs.Form.{form-refused, step-refusal}
+use Rattle.cue_fields.proofs.Form.{form-refused}
+use Rattle.cue_fields.proofs.Steps.{step-refusal}
 use Rattle.cue_book.specs.declared.CueAnswer.the-variants as answer
 use Rattle.cue_book.specs.Reading.{cueRefusal}
 use Rattle.cue_book.specs.Places.{CueRead}
