@@ -43,14 +43,18 @@ doubleEntry-out P u v h =
     (by-test (λ t. cond t (2 * length P) (2 * length P - lastOf P v) ≡ 2 * length P - lastOf P v) (eqb (lastOf P v) 0) (λ e. omega (arith, eqb-true (lastOf P v) 0 e)) (λ _. refl)))
 
 -- by u alone, as an engine finds it from Horspool's entries: 0 where u is the last letter, else Horspool's entry of u
-last-letter : (P : List ℕ) (u : ℕ) → 1 ≤ length P → lastOf P u ≡ cond (eqb (getD P (length P - 1) 0) u) (length P) (lastIn P (length P - 1) u)
-last-letter P u h = let e : suc (length P - 1) ≡ length P = omega arith in ap (λ (n : ℕ). lastIn P n u) (sym e) ∙ lastIn-more P (length P - 1) u ∙ ap (λ (n : ℕ). cond (eqb (getD P (length P - 1) 0) u) n (lastIn P (length P - 1) u)) e
+last-letter : (P : List ℕ) (u : ℕ) → 1 ≤ length P → lastIn P (length P) u ≡ cond (eqb (getD P (length P - 1) 0) u) (length P) (lastIn P (length P - 1) u)
+last-letter P u h =
+    let e : suc (length P - 1) ≡ length P = omega arith in
+    ap (λ (n : ℕ). lastIn P n u) (sym e) ∙ lastIn-more P (length P - 1) u ∙ ap (λ (n : ℕ). cond (eqb (getD P (length P - 1) 0) u) n (lastIn P (length P - 1) u)) e
 
 pub endEntry-last : (P : List ℕ) (u : ℕ) → 1 ≤ length P → getD P (length P - 1) 0 ≡ u → endEntry P u ≡ 0
-endEntry-last P u h e = let l : lastOf P u ≡ length P = last-letter P u h ∙ rw (eq-eqb (getD P (length P - 1) 0) u e) in omega (arith, endEntry-is P u)
+endEntry-last P u h e = let l : lastIn P (length P) u ≡ length P = last-letter P u h ∙ rw (eq-eqb (getD P (length P - 1) 0) u e) in omega (arith, endEntry-is P u)
 
 pub endEntry-other : (P : List ℕ) (u : ℕ) → 1 ≤ length P → (getD P (length P - 1) 0 ≡ u → ⊥) → endEntry P u ≡ horspoolEntry P u
-endEntry-other P u h e = let l : lastOf P u ≡ lastIn P (length P - 1) u = last-letter P u h ∙ rw (ne-eqb (getD P (length P - 1) 0) u e) in omega (arith, endEntry-is P u)
+endEntry-other P u h e =
+    let l : lastIn P (length P) u ≡ lastIn P (length P - 1) u = last-letter P u h ∙ rw (ne-eqb (getD P (length P - 1) 0) u e) in
+    omega (arith, endEntry-is P u)
 
 pub endEntry-le : (P : List ℕ) (u : ℕ) → endEntry P u ≤ length P
 endEntry-le P u = omega (arith, endEntry-is P u)

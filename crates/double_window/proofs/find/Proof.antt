@@ -129,7 +129,7 @@ compared-down j =
     let v = window-zero (P l) (T l) (l .loop .s) 0 (sym (jumped (j .before .before .before)) ∙ j .before .before .if4 .taken) in
     ⊎-elim
     (λ w. rw (w .1, w .2, w .3) (miss-down p (omega arith) v d (w .0 .taken) (omega arith)))
-    (λ w. rw (w .5, w .6, w .7, w .2 .ensures) (hit-down p (omega arith) v d (w .0 .left) (omega arith)))
+    (λ w. rw (w .5, w .6, w .7, w .2 .ensures) (hit-down p (omega arith) v d (omega (arith, w .0 .left)) (omega arith)))
     (j .if5 .came)
 
 -- one window done: the engine is past it, and within the text

@@ -65,7 +65,7 @@ within i = omega (arith, i .loop-test .taken)
 begun : (j : tie.Joined1 Inv-loop2 μ-loop2 Inv-loop μ-loop) → let l = j .before .before in Begun (l .loop .inv .0) (within (j .before)) (j .if1 .until) (j .if1 .compared)
 begun j =
     ⊎-elim
-    (λ w. inl (w .0 .taken, (w .3 .left, (w .5, w .4))))
+    (λ w. inl (omega (arith, w .0 .taken), (w .3 .left, (w .5, w .4))))
     (λ w. inr (omega (arith, w .0 .left), (w .2, w .1)))
     (j .if1 .came)
 
@@ -102,7 +102,7 @@ stepped j =
     })
     (λ w.
     record {
-      progress = rw (w .6, w .7, w .8, w .10, w .2 .ensures) (hit p h g (i .loop2 .inv) (w .0 .left) refl);
+      progress = rw (w .6, w .7, w .8, w .10, w .2 .ensures) (hit p h g (i .loop2 .inv) (omega (arith, w .0 .left)) refl);
       few = omega (arith, w .10);
       under = rw (w .7) (under-more u (w .5 .left));
     })

@@ -60,8 +60,8 @@ stepped j =
     let p = j .before .before .before .loop .inv .0 in
     let d = passed (j .before) in
     ⊎-elim
-    (λ w. rw (w .1, w .2, w .3) (miss-down p (omega arith) refl d (w .0 .taken) (omega arith)))
-    (λ w. rw (w .5, w .6, w .7, w .2 .ensures) (hit-down p (omega arith) refl d (w .0 .left) (omega arith)))
+    (λ w. rw (w .1, w .2, w .3) (miss-down p (omega arith) refl d (omega (arith, w .0 .taken)) (omega arith)))
+    (λ w. rw (w .5, w .6, w .7, w .2 .ensures) (hit-down p (omega arith) refl d (omega (arith, w .0 .left)) (omega arith)))
     (j .if2 .came)
 
 -- the letter under the pattern's end, and the move by its entry

@@ -58,7 +58,7 @@ stepped c =
     let p = outer i .loop .inv .0 in
     let is = reached (c .before) in
     ⊎-elim
-    (λ w. rw (w .1, w .2, w .3) (miss-up p (omega arith) refl is (w .0 .taken) (omega arith)))
+    (λ w. rw (w .1, w .2, w .3) (miss-up p (omega arith) refl is (omega (arith, w .0 .taken)) (omega arith)))
     (λ w. rw (w .5, w .6, w .7, w .2 .ensures) (hit-up p (omega arith) refl is (omega (arith, w .0 .left, i .loop2 .inv .upto)) (omega arith)))
     (c .if4 .came)
 
