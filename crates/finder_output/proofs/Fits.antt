@@ -23,9 +23,9 @@ use Rattle.sunday.proofs.Sound as sunday
 use Rattle.fjs.proofs.Sound as fjs
 use Rattle.pieces.specs.Pieces.{joined}
 use Rattle.pieces.proofs.Laid.{joined-append}
-use Rattle.lines.specs.Lines.{fields, refusedLine}
-use Rattle.lines.proofs.Decimal.{tens, decimal-short}
-use Rattle.lines.proofs.Lengths.{fields-short, line-length, refused-length}
+use Rattle.finder_lines.specs.Lines.{fields, refusedLine}
+use Rattle.finder_lines.proofs.Decimal.{tens, decimal-short}
+use Rattle.finder_lines.proofs.Lengths.{fields-short, line-length, refused-length}
 use Rattle.finder_output.specs.Printed.{phraseIn, textIn, Row, rows, engineLine, engineLines, answered, printed, outputSize, Printed}
 
 -- a refusal's line

@@ -12,8 +12,8 @@ use Rattle.matching.proofs.Find.{within, none-refused, found-answer, found-list
 use Rattle.find.specs.Find.{engineOf, Answered}
 use Rattle.pieces.specs.Pieces.{putAll, Laid}
 use Rattle.pieces.proofs.Laid.{laid-none, laid-then}
-use Rattle.lines.specs.Lines.{field, fields, lineOf, refusedLine}
-use Rattle.lines.proofs.Fields.{fields-received}
+use Rattle.finder_lines.specs.Lines.{field, fields, lineOf, refusedLine}
+use Rattle.finder_lines.proofs.Fields.{fields-received}
 use Rattle.finder_output.specs.Printed.{Row, rows, engineLine, engineLines, answered}
 
 -- 1,281 scratch entries are enough for methods 0 to 4

@@ -13,7 +13,7 @@ use Rattle.horspool.specs.Horspool.{horspool}
 use Rattle.sunday.specs.Sunday.{sunday}
 use Rattle.fjs.specs.Fjs.{fjs}
 use Rattle.pieces.specs.Pieces.{joined}
-use Rattle.lines.specs.Lines.{lineOf, refusedLine}
+use Rattle.finder_lines.specs.Lines.{lineOf, refusedLine}
 
 -- the phrase: the input up to the first byte 10, all of it where there is none
 unfoldable pub phraseIn : List ℕ → List ℕ

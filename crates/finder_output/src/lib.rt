@@ -1,5 +1,5 @@
 // What the finder program of document 01 prints, as one function over slices: it splits the input into phrase and text, and lays out one line an engine, or one refusal.
-// It depends on `matching` for the refusals, on `find` for the finds, and on `lines` for every byte of the output. The program `finder` only reads and writes.
+// It depends on `matching` for the refusals, on `find` for the finds, and on `finder_lines` for every byte of the output. The program `finder` only reads and writes.
 // The contract is an equation for every input (specs/Printed.antt); the output's size is shown to be enough (proofs/Fits.antt), so no line is ever left out.
 ghost use mathlib.Core.Path.{_≡_};
 ghost use Prim.Native.Nat.{_≤_};
@@ -39,7 +39,7 @@ fn put_engine(
     let mut scratch = [0; 1281];
     let mut list = [0; 4096];
     let r = find::find(method, phrase, text, &mut scratch, &mut list);
-    lines::put_line(output, at, name, r.total, r.comparisons, &list)
+    finder_lines::put_line(output, at, name, r.total, r.comparisons, &list)
 }
 
 // Puts all lines for a phrase and a text. All engines refuse alike, so the refusal is tested once, before any of them; a scratch is never too short here.
@@ -48,7 +48,7 @@ fn put_answer(phrase: &[u8], text: &[u8], output: &mut [u8]) -> usize
 {
     let number = matching::refused(phrase.len(), text.len(), 0, 0);
     if number != 0 {
-        return lines::put_refused(output, 0, number);
+        return finder_lines::put_refused(output, 0, number);
     }
     let mut at = put_engine(0, b"naive", phrase, text, output, 0);
     at = put_engine(1, b"kmp", phrase, text, output, at);
@@ -65,7 +65,7 @@ pub fn print_answer(input: &[u8], output: &mut [u8]) -> usize
         return 0;
     }
     if 33793 < input.len() {
-        return lines::put_refused(output, 0, 4);
+        return finder_lines::put_refused(output, 0, 4);
     }
     let end = phrase_end(input);
     let mut start = end;

@@ -8,7 +8,7 @@ use lib.ListN.{length, length-append}
 use lib.Dec.{ltb}
 use borrow.Author.Tests.{lt-ltb, le-ltb, ltb-true, ltb-false}
 use Rattle.matching.proofs.Tests.{by-test}
-use Rattle.lines.specs.Lines.{decimalIn, decimal}
+use Rattle.finder_lines.specs.Lines.{decimalIn, decimal}
 
 -- any two bounds above n give the same digits
 decimal-enough : (f g n : ℕ) → n < f → n < g → decimalIn f n ≡ decimalIn g n

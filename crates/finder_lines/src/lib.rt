@@ -1,7 +1,7 @@
 // The layout of the finder's lines: numbers and whole lines, laid out one after another in a lent buffer.
 // It depends on `pieces`, by which a piece that does not fit is left out, whole, and on `matching` for case analysis.
 ghost use Rattle.pieces.specs.Pieces.{Laid, put, putAll};
-ghost use Rattle.lines.specs.Lines.{field, fields, lineOf, refusedLine};
+ghost use Rattle.finder_lines.specs.Lines.{field, fields, lineOf, refusedLine};
 
 // Puts a number's field, a space and its decimal digits. They are found from the last to the first, in an array that holds the space before any of them.
 pub fn put_number(buffer: &mut [u8], at: usize, value: u32) -> usize

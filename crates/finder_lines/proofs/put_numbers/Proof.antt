@@ -1,4 +1,4 @@
--- `lines::put_numbers` meets its contract. The loop's invariant: the fields of the first i numbers are laid. Assumes nothing.
+-- `finder_lines::put_numbers` meets its contract. The loop's invariant: the fields of the first i numbers are laid. Assumes nothing.
 use mathlib.Core.Path.{_≡_, refl, ap, subst, _∙_}
 use mathlib.Core.Logic.{⊎-elim}
 use Prim.Native.Nat.{ℕ, _+_, _-_, _≤_, _<_, min}
@@ -8,10 +8,10 @@ use mathlib.Core.List.{List, [], _∷_}
 use lib.ListN.{length, getD}
 use Rattle.pieces.specs.Pieces.{putAll, Laid}
 use Rattle.pieces.proofs.Laid.{length-put, laid-none, laid-one, laid-then}
-use Rattle.lines.specs.Lines.{field, fields}
-use Rattle.lines.proofs.Fields.{fields-none, fields-next, fields-min}
-use Rattle.lines.proofs.put_numbers.Statement.{statement}
-use Rattle.lines.proofs.put_numbers.Tie as tie
+use Rattle.finder_lines.specs.Lines.{field, fields}
+use Rattle.finder_lines.proofs.Fields.{fields-none, fields-next, fields-min}
+use Rattle.finder_lines.proofs.put_numbers.Statement.{statement}
+use Rattle.finder_lines.proofs.put_numbers.Tie as tie
 
 abbrev Inv-loop : tie.InvT-loop
 Inv-loop buffer₀ at list count end next₀ i₀ buffer next i = Laid buffer next (putAll buffer₀ at (fields i list)) × ((i ≤ end) × ((end ≡ min count (length list)) × (length buffer ≡ length buffer₀)))

@@ -1,9 +1,9 @@
--- `lines::put_refused` meets its contract: its pieces, one after another. Assumes nothing.
+-- `finder_lines::put_refused` meets its contract: its pieces, one after another. Assumes nothing.
 use borrow.Author.Needs.{needs}
-use Rattle.lines.specs.Lines.{refusedLine}
+use Rattle.finder_lines.specs.Lines.{refusedLine}
 use Rattle.pieces.proofs.Laid.{laid-one, laid-cons}
-use Rattle.lines.proofs.put_refused.Statement.{statement}
-use Rattle.lines.proofs.put_refused.Tie as tie
+use Rattle.finder_lines.proofs.put_refused.Statement.{statement}
+use Rattle.finder_lines.proofs.put_refused.Tie as tie
 
 slice-aggregate-put-bytes : tie.Need-slice-aggregate-put-bytes
 slice-aggregate-put-bytes c = search needs

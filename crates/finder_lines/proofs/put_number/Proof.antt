@@ -1,4 +1,4 @@
--- `lines::put_number` meets its contract. The loop's invariant: the digits of what is left and those already found are the number's, and the array holds spaces before them.
+-- `finder_lines::put_number` meets its contract. The loop's invariant: the digits of what is left and those already found are the number's, and the array holds spaces before them.
 -- Assumes nothing.
 use borrow.Author.Needs.{needs}
 use mathlib.Core.Path.{_≡_, refl, sym, ap, subst, _∙_}
@@ -8,10 +8,10 @@ use mathlib.Core.List.{List, [], _∷_, _++_, append-nil, append-assoc}
 use lib.ListN.{length, getD, drop, set, length-set, length-drop, getD-replicate, replicate}
 use lib.Seq.{drop-cons, drop-set-lt, getD-set-same, getD-set-other, take-all}
 use Rattle.pieces.specs.Pieces.{put, Laid}
-use Rattle.lines.specs.Lines.{decimal, field}
-use Rattle.lines.proofs.Decimal.{tens, decimal-one, decimal-more}
-use Rattle.lines.proofs.put_number.Statement.{statement}
-use Rattle.lines.proofs.put_number.Tie as tie
+use Rattle.finder_lines.specs.Lines.{decimal, field}
+use Rattle.finder_lines.proofs.Decimal.{tens, decimal-one, decimal-more}
+use Rattle.finder_lines.proofs.put_number.Statement.{statement}
+use Rattle.finder_lines.proofs.put_number.Tie as tie
 
 -- two digits are left at least where the rest is not below 10
 place-left : (rest i : ℕ) → 1 ≤ i → i ≤ 10 → 10 ≤ rest → rest < tens i → (2 ≤ i) × (rest / 10 < tens (i - 1))

@@ -7,7 +7,7 @@ use lib.ListN.{length, getD, take, length-take}
 use lib.Seq.{take-all}
 use Rattle.matching.specs.Received.{received}
 use Rattle.matching.proofs.Received.{received-first}
-use Rattle.lines.specs.Lines.{field, fields}
+use Rattle.finder_lines.specs.Lines.{field, fields}
 
 -- the fields of one number more, and of all
 pub fields-next : (i : ℕ) (list : List ℕ) → i < length list → fields (suc i) list ≡ fields i list ++ (field (getD list i 0) ∷ [])

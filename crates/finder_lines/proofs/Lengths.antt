@@ -7,7 +7,7 @@ use mathlib.Core.List.{List, [], _∷_, _++_}
 use lib.ListN.{length, getD, length-append}
 use Rattle.pieces.specs.Pieces.{joined}
 use Rattle.pieces.proofs.Laid.{joined-append}
-use Rattle.lines.specs.Lines.{field, fields, lineOf, refusedLine}
+use Rattle.finder_lines.specs.Lines.{field, fields, lineOf, refusedLine}
 
 -- fields of at most so many bytes each
 pub fields-short : (size count : ℕ) (list : List ℕ) → ((i : ℕ) → i < length list → length (field (getD list i 0)) ≤ size) → length (joined (fields count list)) ≤ length list * size

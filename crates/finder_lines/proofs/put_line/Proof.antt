@@ -1,9 +1,9 @@
--- `lines::put_line` meets its contract: its pieces, one after another. Assumes nothing.
+-- `finder_lines::put_line` meets its contract: its pieces, one after another. Assumes nothing.
 use borrow.Author.Needs.{needs}
-use Rattle.lines.specs.Lines.{lineOf}
+use Rattle.finder_lines.specs.Lines.{lineOf}
 use Rattle.pieces.proofs.Laid.{laid-one, laid-cons, laid-then}
-use Rattle.lines.proofs.put_line.Statement.{statement}
-use Rattle.lines.proofs.put_line.Tie as tie
+use Rattle.finder_lines.proofs.put_line.Statement.{statement}
+use Rattle.finder_lines.proofs.put_line.Tie as tie
 
 put-bytes-requires : tie.Need-put-bytes-requires
 put-bytes-requires c κs = search needs
