@@ -9,7 +9,7 @@ use lib.Seq.{getD-take, getD-drop, ext-getD}
 use lib.Dec.{eqb, ltb}
 use borrow.Author.Tests.{not-true, eqb-false, ne-eqb, ltb-true, ltb-false}
 use Rattle.matching.specs.Occurrences.{same}
-use Rattle.matching.proofs.Tests.{by-test, both, either, at-same}
+use Rattle.matching.proofs.CaseAnalysis.{by-test, both, either, at-same}
 use Rattle.matching.proofs.Occurrences.{same-true, eq-same}
 use Rattle.border_tables.specs.Kmp.{border, strong}
 

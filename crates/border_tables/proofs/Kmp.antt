@@ -8,7 +8,7 @@ use mathlib.Core.List.{List}
 use lib.ListN.{length, getD}
 use lib.Dec.{eqb, ltb}
 use borrow.Author.Tests.{eqb-true, eqb-false, ltb-true, ltb-false}
-use Rattle.matching.proofs.Tests.{by-test, at-same}
+use Rattle.matching.proofs.CaseAnalysis.{by-test, at-same}
 use Rattle.tables.specs.Tables.{largest}
 use Rattle.border_tables.specs.Kmp.{strong, kmpEntry, kmpMade}
 use Rattle.tables.proofs.Tables.{largest-le, largest-none, largest-holds, largest-is, Entries, Filled, filled, Reads}

@@ -7,7 +7,7 @@ use mathlib.Core.List.{List}
 use lib.ListN.{length, getD}
 use Rattle.matching.specs.Machine.{at}
 use Rattle.matching.specs.Find.{Engine}
-use Rattle.matching.proofs.Tests.{at-same}
+use Rattle.matching.proofs.CaseAnalysis.{at-same}
 use Rattle.matching.proofs.Occurrences.{Stands}
 use Rattle.matching.proofs.Letters.{Meets}
 use Rattle.matching.proofs.Machine.{Moves}

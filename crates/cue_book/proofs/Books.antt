@@ -9,7 +9,7 @@ use lib.ListN.{length, getD, take, drop, length-drop, length-append}
 use lib.Seq.{getD-append-seam}
 use lib.Dec.{eqb, ltb}
 use borrow.Author.Tests.{eq-eqb, ne-eqb, eqb-true, eqb-false, lt-ltb, le-ltb, ltb-true, ltb-false}
-use Rattle.matching.proofs.Tests.{by-test}
+use Rattle.matching.proofs.CaseAnalysis.{by-test}
 use Rattle.cue_fields.specs.Field.{fieldBody}
 use Rattle.cue_fields.specs.Form.{formSize, afterForm}
 use Rattle.cue_fields.proofs.Fields.{after-field}

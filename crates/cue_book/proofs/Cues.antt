@@ -7,7 +7,7 @@ use lib.ListN.{length, drop, length-drop}
 use lib.Dec.{leb}
 use denote.Enum.Declared as declared
 use borrow.Author.Tests.{eq-eqb, ne-eqb, leb-true}
-use Rattle.matching.proofs.Tests.{both}
+use Rattle.matching.proofs.CaseAnalysis.{both}
 use Rattle.cue_fields.specs.declared.Due.the-variants.{Phrase, Ordinal, Title}
 use Rattle.cue_fields.specs.Field.{numberIn, fieldLength, fieldSize, fieldBody, afterField, part}
 use Rattle.cue_fields.specs.Form.{formSize, afterForm, formBodies}

@@ -10,7 +10,7 @@ use lib.Dec.{eqb, leb}
 use borrow.Author.Tests.{ne-eqb, eqb-true, eqb-false, le-leb, leb-true}
 use Rattle.matching.specs.Refusals.{firstMet}
 use Rattle.matching.proofs.Refusals.{Passed, numbersTo, all-passed}
-use Rattle.matching.proofs.Tests.{both}
+use Rattle.matching.proofs.CaseAnalysis.{both}
 use Rattle.cue_fields.specs.declared.Due.the-variants.{Phrase, Ordinal, Title}
 use Rattle.cue_fields.specs.Field.{twoBytes, numberIn, valueTests, fieldSize, fieldBody, afterField}
 use Rattle.cue_fields.specs.Form.{formBodies, formBytes, Sound, AllSound, Bytes}

@@ -9,7 +9,7 @@ use lib.Seq.{drop-drop, getD-drop, take-append-seam, drop-append-seam, length-ta
 use lib.Dec.{eqb}
 use borrow.Author.Tests.{eq-eqb, ne-eqb, eqb-true, eqb-false}
 use Rattle.matching.specs.Refusals.{firstMet}
-use Rattle.matching.proofs.Tests.{by-test, cond-most}
+use Rattle.matching.proofs.CaseAnalysis.{by-test, cond-most}
 use Rattle.cue_fields.specs.declared.Due.{Due}
 use Rattle.cue_fields.specs.Field.{twoBytes, fieldBytes, tagOf, allowed, numberIn, valueTests, fieldLength, fieldSize, fieldBody, afterField, fieldRefusal}
 use Rattle.cue_fields.specs.Form.{formRefusal, formSize, afterForm, formBodies, formBytes, Sound, AllSound, Bytes, FormReadsBack, FormWasWritten}

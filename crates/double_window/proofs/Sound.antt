@@ -8,7 +8,7 @@ use lib.ListN.{length, getD}
 use lib.Dec.{eqb, ltb}
 use borrow.Author.Tests.{eqb-true, eqb-false, eq-eqb, ne-eqb, lt-ltb, le-ltb, ltb-true, ltb-false}
 use Rattle.matching.specs.Machine.{at, lastToFirst}
-use Rattle.matching.proofs.Tests.{by-test, at-same}
+use Rattle.matching.proofs.CaseAnalysis.{by-test, at-same}
 use Rattle.matching.proofs.Occurrences.{Stands, no-occurrence}
 use Rattle.matching.proofs.Machine.{carries-none, Moves, Right, Sound, right-down}
 use Rattle.letter_tables.specs.DoubleWindow.{lastOf, endEntry, doubleEntry}

@@ -10,7 +10,7 @@ use lib.Dec.{leb}
 use borrow.Author.Tests.{leb-true, leb-false}
 use Rattle.matching.specs.declared.Finding.{Finding}
 use Rattle.matching.specs.Find.{Engine, Found}
-use Rattle.matching.proofs.Tests.{by-test}
+use Rattle.matching.proofs.CaseAnalysis.{by-test}
 use Rattle.matching.proofs.Find.{found-answer, found-listed, found-none, Longer, found-longer}
 use Rattle.find.specs.Find.{engineOf, Answered}
 

@@ -11,7 +11,7 @@ use lib.Dec.{eqb, ltb}
 use borrow.Author.Tests.{eqb-true}
 use Rattle.matching.specs.Occurrences.{occurrences}
 use Rattle.matching.specs.Find.{compared, refusal}
-use Rattle.matching.proofs.Tests.{by-test}
+use Rattle.matching.proofs.CaseAnalysis.{by-test}
 use Rattle.matching.proofs.Occurrences.{occurrences-few, occurrences-below}
 use Rattle.matching.proofs.Machine.{Sound}
 use Rattle.matching.proofs.Find.{Within, within, refusal-most}

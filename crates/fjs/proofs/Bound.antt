@@ -11,7 +11,7 @@ use borrow.Author.Tests.{eqb-true, eqb-false, ltb-true, ltb-false, leb-true, leb
 use Rattle.matching.specs.Letters.{equalOn, reach, looks}
 use Rattle.matching.specs.Machine.{State, stop, at, windows, runFrom, comparedIn}
 use Rattle.matching.specs.Find.{compared}
-use Rattle.matching.proofs.Tests.{by-test}
+use Rattle.matching.proofs.CaseAnalysis.{by-test}
 use Rattle.matching.proofs.Letters.{reach-le, looks-le, looks-part, looks-all}
 use Rattle.matching.proofs.Machine.{windows-on, windows-off}
 use Rattle.letter_tables.specs.Moves.{sundayMove}

@@ -11,7 +11,7 @@ use lib.Dec.{eqb}
 use borrow.Author.Tests.{eqb-true, eqb-false, eq-eqb, ne-eqb}
 use Rattle.matching.specs.Letters.{equalOn, reach, looks}
 use Rattle.matching.specs.Machine.{firstToLast}
-use Rattle.matching.proofs.Tests.{by-test, at-same}
+use Rattle.matching.proofs.CaseAnalysis.{by-test, at-same}
 use Rattle.matching.proofs.Occurrences.{no-occurrence}
 use Rattle.matching.proofs.Letters.{pairs-take, reach-le, reach-meets, reach-differs, reach-reports, looks-le}
 use Rattle.matching.proofs.Machine.{Carries, Moves, Right, Sound, right-up}

@@ -10,7 +10,7 @@ use borrow.Author.Tests.{eq-eqb, ne-eqb}
 use Rattle.matching.specs.Occurrences.{occurrences}
 use Rattle.matching.specs.Letters.{reach}
 use Rattle.matching.specs.Machine.{at}
-use Rattle.matching.proofs.Tests.{at-same}
+use Rattle.matching.proofs.CaseAnalysis.{at-same}
 use Rattle.matching.proofs.Letters.{reach-equal, reach-done, Upward, up-stops, looks-part, looks-all}
 use Rattle.matching.proofs.Progress.{Progress, Over, same-list, over-total, over-compared, over-listed, reported-as, missed-as, reported-more, reported-place, hit-up, miss-up}
 use Rattle.letter_tables.specs.Moves.{sundayMove}

@@ -6,7 +6,7 @@ use mathlib.Core.Bool.{true, false, cond, not, _&&_}
 use mathlib.Core.List.{List, [], _∷_, map}
 use lib.Dec.{eqb, leb}
 use borrow.Author.Tests.{le-leb, lt-leb, leb-true}
-use Rattle.matching.proofs.Tests.{by-test, both, either}
+use Rattle.matching.proofs.CaseAnalysis.{by-test, both, either}
 use Rattle.fold.specs.Fold.{capital, folded}
 
 -- a capital folds to a letter that stays

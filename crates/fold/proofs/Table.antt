@@ -7,7 +7,7 @@ use mathlib.Core.List.{List, [], _∷_}
 use lib.ListN.{length, getD}
 use lib.Dec.{eqb}
 use borrow.Author.Tests.{eqb-true}
-use Rattle.matching.proofs.Tests.{both}
+use Rattle.matching.proofs.CaseAnalysis.{both}
 use Rattle.fold.specs.Fold.{folded}
 
 -- the table of the code

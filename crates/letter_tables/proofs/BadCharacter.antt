@@ -8,7 +8,7 @@ use mathlib.Core.Bool.{cond, true≢false}
 use lib.ListN.{length, getD}
 use lib.Dec.{eqb}
 use borrow.Author.Tests.{eq-eqb, eqb-true}
-use Rattle.matching.proofs.Tests.{at-same}
+use Rattle.matching.proofs.CaseAnalysis.{at-same}
 use Rattle.matching.proofs.Occurrences.{Stands}
 use Rattle.tables.specs.Tables.{largest}
 use Rattle.letter_tables.specs.BadCharacter.{lastIn, sundayEntry, horspoolEntry, sundayMade, horspoolMade}

@@ -7,7 +7,7 @@ use mathlib.Core.Bool.{cond}
 use lib.ListN.{length, getD}
 use lib.Dec.{eqb, ltb}
 use borrow.Author.Tests.{eqb-true, ne-eqb, eq-eqb, ltb-true, ltb-false}
-use Rattle.matching.proofs.Tests.{by-test}
+use Rattle.matching.proofs.CaseAnalysis.{by-test}
 use Rattle.matching.proofs.Occurrences.{Stands}
 use Rattle.letter_tables.specs.BadCharacter.{lastIn, horspoolEntry}
 use Rattle.letter_tables.specs.DoubleWindow.{lastOf, endEntry, doubleEntry}

@@ -9,7 +9,7 @@ use lib.Dec.{ltb}
 use borrow.Author.Tests.{lt-ltb, le-ltb, ltb-true, ltb-false}
 use Rattle.matching.specs.Machine.{stop, at}
 use Rattle.matching.specs.Find.{Engine}
-use Rattle.matching.proofs.Tests.{by-test}
+use Rattle.matching.proofs.CaseAnalysis.{by-test}
 use Rattle.matching.proofs.Machine.{carries-none, Moves}
 use Rattle.matching.proofs.Progress.{Progress, Over, stopped}
 use Rattle.tables.proofs.Tables.{Reads}

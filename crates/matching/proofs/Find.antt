@@ -13,7 +13,7 @@ use Rattle.matching.specs.Occurrences.{occurrences}
 use Rattle.matching.specs.Received.{received}
 use Rattle.matching.specs.Machine.{runFrom, comparedIn}
 use Rattle.matching.specs.Find.{findTests, refusal, Engine, compared, refusalOf, Found}
-use Rattle.matching.proofs.Tests.{by-test}
+use Rattle.matching.proofs.CaseAnalysis.{by-test}
 use Rattle.matching.proofs.Refusals.{Passed, none-met, numbersTo, all-passed, met-most}
 use Rattle.matching.proofs.Received.{received-none}
 use Rattle.matching.proofs.Occurrences.{occurrences-none}

@@ -10,7 +10,7 @@ use lib.Dec.{eqb, ltb}
 use borrow.Author.Tests.{eqb-true, eqb-false, eq-eqb, ne-eqb, le-leb, lt-leb, ltb-true, ltb-false, lt-ltb, le-ltb}
 use Rattle.matching.specs.Occurrences.{occursAt}
 use Rattle.matching.specs.Letters.{equalPairs, equalOn, reach, equalDown, comparedDown, looks}
-use Rattle.matching.proofs.Tests.{by-test, at-same}
+use Rattle.matching.proofs.CaseAnalysis.{by-test, at-same}
 use Rattle.matching.proofs.Occurrences.{stands, occurs}
 
 -- ---- pairs at the front of two lists

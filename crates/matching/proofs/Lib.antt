@@ -1,5 +1,5 @@
 -- The laws of this crate that others cite.
-pub mod Tests
+pub mod CaseAnalysis
 pub mod Occurrences
 pub mod Received
 pub mod Parts

@@ -12,7 +12,7 @@ use borrow.Author.Tests.{le-leb, lt-leb, leb-true, leb-false}
 use Rattle.matching.specs.Occurrences.{occursAt, occursFrom, occurrences}
 use Rattle.matching.specs.Letters.{equalOn, equalDown}
 use Rattle.matching.specs.Machine.{State, stop, at, Window, Steps, Visit, windows, runFrom, run, comparedIn, positionsIn, firstToLast, lastToFirst}
-use Rattle.matching.proofs.Tests.{by-test}
+use Rattle.matching.proofs.CaseAnalysis.{by-test}
 use Rattle.matching.proofs.Occurrences.{Stands, no-occurrence, rest, rest-step, rest-skip, rest-none, rest-past}
 use Rattle.matching.proofs.Letters.{Meets, meets-none, reach-le, reach-reports, down-le, down-reports, looks-le}
 

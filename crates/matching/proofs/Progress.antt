@@ -14,7 +14,7 @@ use Rattle.matching.specs.Received.{received}
 use Rattle.matching.specs.Letters.{equalOn, reach, equalDown}
 use Rattle.matching.specs.Machine.{State, stop, at, Window, Steps, Visit, runFrom, run, comparedIn, positionsIn, firstToLast, lastToFirst}
 use Rattle.matching.specs.Find.{Engine, compared, refusalOf, withTables, Found}
-use Rattle.matching.proofs.Tests.{by-test}
+use Rattle.matching.proofs.CaseAnalysis.{by-test}
 use Rattle.matching.proofs.Occurrences.{occurrences-few}
 use Rattle.matching.proofs.Received.{received-none, received-more, length-received}
 use Rattle.matching.proofs.Letters.{Downward, looks-part, looks-all}

@@ -7,7 +7,7 @@ use mathlib.Core.List.{List, [], _∷_, _++_}
 use lib.Dec.{leb}
 use borrow.Author.Tests.{leb-true}
 use Rattle.matching.specs.Refusals.{Test, firstMet}
-use Rattle.matching.proofs.Tests.{by-test, both, cond-most}
+use Rattle.matching.proofs.CaseAnalysis.{by-test, both, cond-most}
 
 -- every row was passed
 unfoldable pub Passed : List Test → Type 0

@@ -8,7 +8,7 @@ use lib.ListN.{length, length-append}
 use lib.Dec.{eqb}
 use borrow.Author.Tests.{eq-eqb, ne-eqb, eqb-true, eqb-false}
 use Rattle.matching.specs.Refusals.{firstMet}
-use Rattle.matching.proofs.Tests.{by-test}
+use Rattle.matching.proofs.CaseAnalysis.{by-test}
 use Rattle.cue_book.specs.Format.{Cue}
 use Rattle.outcome.specs.Outcome.{Numbered, numberedFrom, isThere, placeOf, cueFault, Judged, judge}
 use Rattle.outcome.specs.Told.{cuesOf, AllThere, placesOf, Found, Faulted}

@@ -11,7 +11,7 @@ use borrow.Author.Tests.{leb-true}
 use Rattle.matching.specs.Occurrences.{occurrences, hasNth}
 use Rattle.matching.specs.Received.{received}
 use Rattle.matching.specs.Refusals.{firstMet}
-use Rattle.matching.proofs.Tests.{both}
+use Rattle.matching.proofs.CaseAnalysis.{both}
 use Rattle.matching.proofs.Received.{received-front}
 use Rattle.matching.proofs.Occurrences.{member, occurrences-are, occurrences-rise}
 use Rattle.cue_book.specs.Format.{Cue}

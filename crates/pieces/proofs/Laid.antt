@@ -7,7 +7,7 @@ use lib.ListN.{length, take, drop, take-append-drop, length-append, length-drop}
 use lib.Seq.{length-take-le, take-at, drop-at, drop-drop}
 use lib.Dec.{leb}
 use borrow.Author.Tests.{le-leb, lt-leb, leb-true, leb-false}
-use Rattle.matching.proofs.Tests.{by-test}
+use Rattle.matching.proofs.CaseAnalysis.{by-test}
 use Rattle.pieces.specs.Pieces.{Filled, joined, put, putAll, Laid}
 
 -- a piece fits, and it does not

@@ -11,7 +11,7 @@ use lib.ListN.{length, getD, length-append, length-map, List·getD-map}
 use lib.Dec.{eqb}
 use borrow.Author.Tests.{ne-eqb}
 use Rattle.matching.specs.Received.{received}
-use Rattle.matching.proofs.Tests.{by-test}
+use Rattle.matching.proofs.CaseAnalysis.{by-test}
 use Rattle.fold.specs.Fold.{capital, folded}
 use Rattle.fold.proofs.Fold.{folded-twice}
 use Rattle.cue_book.specs.declared.Answer.{Answer}

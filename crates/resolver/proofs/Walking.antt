@@ -14,7 +14,7 @@ use denote.Enum.Declared as declared
 use Rattle.matching.specs.Occurrences.{occurrences, hasNth}
 use Rattle.matching.specs.Find.{refusalOf}
 use Rattle.matching.specs.Received.{received}
-use Rattle.matching.proofs.Tests.{by-test}
+use Rattle.matching.proofs.CaseAnalysis.{by-test}
 use Rattle.matching.proofs.Received.{received-none, received-more}
 use Rattle.matching.proofs.Find.{none-refused}
 use Rattle.fold.specs.Fold.{folded}

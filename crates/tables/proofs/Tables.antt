@@ -9,7 +9,7 @@ use lib.Seq.{length-take-le, getD-take, getD-append-add, ext-getD, getD-set-same
 use borrow.Rule.Slice.PartMut.{putMid, midOf}
 use lib.Dec.{eqb, ltb}
 use borrow.Author.Tests.{eqb-true, eqb-false, ltb-true, ltb-false, le-ltb, lt-ltb}
-use Rattle.matching.proofs.Tests.{by-test, at-same}
+use Rattle.matching.proofs.CaseAnalysis.{by-test, at-same}
 use Rattle.tables.specs.Tables.{largest, tabulate, made}
 
 -- ---- the largest that passes a test

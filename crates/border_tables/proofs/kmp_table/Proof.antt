@@ -9,7 +9,7 @@ use mathlib.Core.Logic.{⊎-elim}
 use mathlib.Core.List.{List, _++_}
 use lib.ListN.{length, getD, drop, set, length-set}
 use lib.Seq.{drop-set-lt}
-use Rattle.matching.proofs.Tests.{at-same}
+use Rattle.matching.proofs.CaseAnalysis.{at-same}
 use Rattle.tables.specs.Tables.{tabulate}
 use Rattle.border_tables.specs.Kmp.{kmpEntry, kmpMade}
 use Rattle.tables.proofs.Tables.{Ruled, ruled-none, ruled-next, ruled-anew, ruled-is, made-short-by, made-long-by, made-by}

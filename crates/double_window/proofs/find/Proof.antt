@@ -8,7 +8,7 @@ use mathlib.Core.List.{List, _++_}
 use lib.ListN.{length, getD, drop}
 use borrow.Rule.Slice.PartMut.{putMid}
 use Rattle.matching.specs.Machine.{at}
-use Rattle.matching.proofs.Tests.{at-same}
+use Rattle.matching.proofs.CaseAnalysis.{at-same}
 use Rattle.matching.proofs.Letters.{Downward, down-compared}
 use Rattle.matching.proofs.Find.{found-refused}
 use Rattle.matching.proofs.Progress.{Accepted, accepted, Progress, begins, missed, hit-down, miss-down, total-small, compared-small, same-list, past, keeps}

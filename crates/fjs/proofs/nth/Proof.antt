@@ -11,7 +11,7 @@ use lib.Dec.{leb}
 use borrow.Author.Tests.{eq-eqb, ne-eqb, le-leb, lt-leb, leb-true, leb-false}
 use Rattle.matching.specs.Occurrences.{occurrences, hasNth}
 use Rattle.matching.specs.Find.{refusalOf, withTables}
-use Rattle.matching.proofs.Tests.{by-test}
+use Rattle.matching.proofs.CaseAnalysis.{by-test}
 use Rattle.matching.proofs.Occurrences.{occurrences-below}
 use Rattle.matching.proofs.Progress.{Accepted, accepted}
 use Rattle.fjs.specs.declared.Place.{Place}

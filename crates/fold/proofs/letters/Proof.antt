@@ -10,7 +10,7 @@ use lib.Seq.{length-take-le, take-suc, take-all}
 use lib.Dec.{leb}
 use borrow.Author.Tests.{leb-true, leb-false}
 use Rattle.matching.specs.Received.{received}
-use Rattle.matching.proofs.Tests.{by-test}
+use Rattle.matching.proofs.CaseAnalysis.{by-test}
 use Rattle.matching.proofs.Received.{received-none, received-more, received-enough, length-received}
 use Rattle.fold.specs.Fold.{folded}
 use Rattle.fold.proofs.Table.{table-at}

@@ -8,7 +8,7 @@ use mathlib.Core.Bool.{cond}
 use mathlib.Core.List.{List, _++_}
 use lib.ListN.{getD, drop}
 use lib.Dec.{eqb}
-use Rattle.matching.proofs.Tests.{by-test}
+use Rattle.matching.proofs.CaseAnalysis.{by-test}
 use Rattle.letter_tables.specs.BadCharacter.{lastIn, lastTable}
 use Rattle.tables.proofs.Tables.{Ruled, ruled-is, ruled-none, ruled-next, ruled-set, ruled-as, ruled-anew, ruled-since}
 use Rattle.letter_tables.proofs.BadCharacter.{lastIn-zero, lastIn-more}
