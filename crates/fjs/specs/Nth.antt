@@ -5,7 +5,8 @@ use mathlib.Core.Bool.{cond}
 use mathlib.Core.List.{List, [], _∷_}
 use lib.ListN.{getD}
 use Rattle.matching.specs.Occurrences.{occurrences, hasNth}
-use Rattle.matching.specs.Find.{accepts, refusalOf, withTables}
+use Rattle.matching.specs.Received.{received}
+use Rattle.matching.specs.Find.{accepts, refusalOf}
 use Rattle.fjs.specs.declared.Place.{Place}
 use Rattle.fjs.specs.declared.Place.the-variants.{Refused, At, Nothing}
 use Rattle.fjs.specs.Fjs.{fjs}
@@ -36,4 +37,4 @@ pub record Located (P T scratch : List ℕ) (ordinal : ℕ) (r : Place) (scratch
   pub answer : r ≡ nthAnswer P T scratch ordinal
   pub numbered : number r ≡ cond (accepts fjs P T scratch) (cond (hasNth (occurrences P T) ordinal) 0 12) (refusalOf fjs P T scratch)
   pub meant : placesMeant r ≡ cond (accepts fjs P T scratch) (cond (hasNth (occurrences P T) ordinal) (getD (occurrences P T) (ordinal - 1) 0 ∷ []) []) []
-  pub left : scratch′ ≡ cond (accepts fjs P T scratch) (withTables fjs P scratch) scratch
+  pub left : scratch′ ≡ cond (accepts fjs P T scratch) (received scratch (fjs .tables P)) scratch

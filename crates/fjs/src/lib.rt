@@ -5,7 +5,8 @@ use matching::Finding;
 ghost use mathlib.Core.Path.{_≡_};
 ghost use Prim.Native.Nat.{_+_, _-_, _*_, _≤_};
 ghost use lib.ListN.{length};
-ghost use Rattle.matching.specs.Find.{withTables, Found};
+ghost use Rattle.matching.specs.Received.{received};
+ghost use Rattle.matching.specs.Find.{Found};
 ghost use Rattle.fjs.specs.Fjs.{fjs};
 ghost use Rattle.fjs.specs.Nth.{Located};
 ghost use Rattle.fjs.specs.Search.{Ready, Searched};
@@ -27,7 +28,7 @@ struct Tally {
 // Makes both tables: the scratch's first 256 entries are lent to the Sunday maker and the part from 256 on to the KMP maker.
 fn make_tables(pattern: &[u8], scratch: &mut [u16])
     requires { ⌜ (length (now pattern) ≤ 1024) × (256 + (length (now pattern) + 1) ≤ length (now scratch)) ⌝ }
-    ensures { λ _. ⌜ now (scratch .exit) ≡ withTables fjs (now (pattern .entry)) (now (scratch .entry)) ⌝ }
+    ensures { λ _. ⌜ now (scratch .exit) ≡ received (now (scratch .entry)) (fjs .tables (now (pattern .entry))) ⌝ }
 {
     letter_tables::sunday_table(pattern, &mut scratch[..256]);
     border_tables::kmp_table(pattern, &mut scratch[256..]);

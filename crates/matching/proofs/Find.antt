@@ -4,8 +4,8 @@ use mathlib.Core.Path.{_≡_, refl, _∙_, sym, ap}
 use Prim.Native.Nat.{ℕ, suc, _≤_, _<_}
 use native.Mathlib.Omega.{arith}
 use mathlib.Core.Bool.{true, false}
-use mathlib.Core.List.{List, [], _++_}
-use lib.ListN.{length, drop}
+use mathlib.Core.List.{List}
+use lib.ListN.{length}
 use lib.Dec.{eqb}
 use borrow.Author.Tests.{eqb-true, eq-eqb, ne-eqb, eqb-false, ltb-false, le-ltb}
 use Rattle.matching.specs.declared.Finding.{Finding}
@@ -52,7 +52,7 @@ longer-costs e P T h = ap comparedIn (windows-off (suc (length T)) (e .steps) P 
 -- total 0 and comparisons 0, the list as before, and the tables filled all the same
 pub record Longer (e : Engine) (P scratch list : List ℕ) (r : Finding) (scratch′ list′ : List ℕ) : Type 0 where
   pub answer : r ≡ record { refusal = 0; total = 0; comparisons = 0 }
-  pub left : scratch′ ≡ e .tables P ++ drop (e .entries (length P)) scratch
+  pub left : scratch′ ≡ received scratch (e .tables P)
   pub listed : list′ ≡ list
 
 module _ {e : Engine} {P T scratch list : List ℕ} where
@@ -68,7 +68,7 @@ module _ {e : Engine} {P T scratch list : List ℕ} where
 
   -- a find that is not refused: its answer and what it leaves
   pub found-accepted : refusalOf e P T scratch ≡ 0 → {total comparisons : ℕ} {scratch′ list′ : List ℕ} → total ≡ length (occurrences P T) → comparisons ≡ compared e P T
-      → scratch′ ≡ e .tables P ++ drop (e .entries (length P)) scratch → list′ ≡ received list (occurrences P T)
+      → scratch′ ≡ received scratch (e .tables P) → list′ ≡ received list (occurrences P T)
       → Found e P T scratch list (record { refusal = 0; total = total; comparisons = comparisons }) scratch′ list′
   found-accepted none a b c d =
       let on : eqb (refusalOf e P T scratch) 0 ≡ true = eq-eqb (refusalOf e P T scratch) 0 none in
@@ -89,7 +89,7 @@ module _ {e : Engine} {P T scratch list : List ℕ} where
     pub found-listed : list′ ≡ received list (occurrences P T)
     found-listed = f .listed ∙ rw on
 
-    pub found-left : scratch′ ≡ e .tables P ++ drop (e .entries (length P)) scratch
+    pub found-left : scratch′ ≡ received scratch (e .tables P)
     found-left = f .left ∙ rw on
 
   -- a find that returns no refusal met none

@@ -2,8 +2,8 @@
 use mathlib.Core.Path.{_≡_}
 use Prim.Native.Nat.{ℕ}
 use mathlib.Core.Bool.{Bool, cond}
-use mathlib.Core.List.{List, [], _∷_, _++_}
-use lib.ListN.{length, drop}
+use mathlib.Core.List.{List, [], _∷_}
+use lib.ListN.{length}
 use lib.Dec.{eqb, ltb}
 use Rattle.matching.specs.declared.Finding.{Finding}
 use Rattle.matching.specs.Occurrences.{occurrences}
@@ -46,13 +46,9 @@ refusalOf e P T scratch = refusal (length P) (length T) (length scratch) (e .ent
 abbrev pub accepts : Engine → List ℕ → List ℕ → List ℕ → Bool
 accepts e P T scratch = eqb (refusalOf e P T scratch) 0
 
--- the scratch with the tables of a pattern at its front, and its entries past them kept
-abbrev pub withTables : Engine → List ℕ → List ℕ → List ℕ
-withTables e P scratch = e .tables P ++ drop (e .entries (length P)) scratch
-
 -- a find by this engine gave r and left scratch′ of the scratch and list′ of the list. Refused: the number and zeros, and all as before.
--- Otherwise: the full total and the comparisons of its steps; the tables, with the scratch's entries past them kept; and the first occurrences, with the list's entries past them kept
+-- Otherwise: the full total and the comparisons of its steps; the scratch received the tables, and the list the occurrences, each by the rule of a lent list
 pub record Found (e : Engine) (P T scratch list : List ℕ) (r : Finding) (scratch′ list′ : List ℕ) : Type 0 where
   pub answer : r ≡ cond (accepts e P T scratch) (record { refusal = 0; total = length (occurrences P T); comparisons = compared e P T }) (record { refusal = refusalOf e P T scratch; total = 0; comparisons = 0 })
-  pub left : scratch′ ≡ cond (accepts e P T scratch) (withTables e P scratch) scratch
+  pub left : scratch′ ≡ cond (accepts e P T scratch) (received scratch (e .tables P)) scratch
   pub listed : list′ ≡ cond (accepts e P T scratch) (received list (occurrences P T)) list

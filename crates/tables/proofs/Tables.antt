@@ -9,7 +9,9 @@ use lib.Seq.{length-take-le, getD-take, getD-append-add, ext-getD, getD-set-same
 use borrow.Rule.Slice.PartMut.{putMid, midOf}
 use lib.Dec.{eqb, ltb}
 use borrow.Author.Tests.{eqb-true, eqb-false, ltb-true, ltb-false, le-ltb, lt-ltb}
+use Rattle.matching.specs.Received.{received}
 use Rattle.matching.proofs.CaseAnalysis.{by-test, at-same}
+use Rattle.matching.proofs.Received.{received-front}
 use Rattle.tables.specs.Tables.{largest, tabulate, made}
 
 -- ---- the largest that passes a test
@@ -167,7 +169,7 @@ made-long most entries table h k = rw (le-ltb (length table) (length entries) h,
 
 pub made-is : (most : ℕ) (entries table : List ℕ) → length entries ≤ length table → most ≤ 65535 → made most entries table ≡ entries ++ drop (length entries) table
 unfolding made
-made-is most entries table h k = rw (le-ltb (length table) (length entries) h, le-ltb 65535 most k)
+made-is most entries table h k = rw (le-ltb (length table) (length entries) h, le-ltb 65535 most k) (received-front table entries h)
 
 -- the same for n entries by a rule
 module _ (most n : ℕ) (rule : ℕ → ℕ) (table : List ℕ) where
@@ -196,11 +198,14 @@ front-entries n rule rest e =
 
 -- a maker that had room, with no entry above 16 bits, filled the front: what it left, and each entry by its rule
 pub record Filled (n : ℕ) (rule : ℕ → ℕ) (table table′ : List ℕ) : Type 0 where
-  pub left : table′ ≡ tabulate n rule ++ drop n table
+  pub left : table′ ≡ received table (tabulate n rule)
   pub entries : Entries 0 n rule table′
 
 pub filled : (most n : ℕ) (rule : ℕ → ℕ) {table table′ : List ℕ} → n ≤ length table → most ≤ 65535 → table′ ≡ made most (tabulate n rule) table → Filled n rule table table′
-filled most n rule {table} h k e = let left = e ∙ made-by most n rule table h k in record { left = left; entries = front-entries n rule (drop n table) left }
+filled most n rule {table} h k e =
+    let size : length (tabulate n rule) ≡ n = length-tabulate n rule in
+    let front = e ∙ made-by most n rule table h k in
+    record { left = e ∙ made-is most (tabulate n rule) table (omega arith) k ∙ sym (received-front table (tabulate n rule) (omega arith)); entries = front-entries n rule (drop n table) front }
 
 -- an entry as code reads it: by its rule, and within bounds
 pub record Reads (entry rule low high : ℕ) : Type 0 where
@@ -227,6 +232,13 @@ module _ (a b : ℕ) (f g : ℕ → ℕ) (rest : List ℕ) where
             ap (λ (t : List ℕ). getD t p 0) e′ ∙ at-same (tabulate a f ++ (tabulate b g ++ rest)) {j = length (tabulate a f) + i} (omega arith)
             ∙ getD-append-add (tabulate a f) (tabulate b g ++ rest) i 0 ∙ tabulate-at b g rest i h;
       }
+
+-- so a scratch that received both has them at its front
+pub both-received : (a b : ℕ) (f g : ℕ → ℕ) (scratch : List ℕ) → a + b ≤ length scratch
+    → received scratch (tabulate a f ++ tabulate b g) ≡ (tabulate a f ++ tabulate b g) ++ drop (a + b) scratch
+both-received a b f g scratch h =
+    let size : length (tabulate a f ++ tabulate b g) ≡ a + b = length-append (tabulate a f) (tabulate b g) ∙ omega (arith, length-tabulate a f, length-tabulate b g) in
+    received-front scratch (tabulate a f ++ tabulate b g) (omega arith) ∙ ap (λ (n : ℕ). (tabulate a f ++ tabulate b g) ++ drop n scratch) size
 
 -- the second maker is lent the part from a on of a scratch whose front the first maker has made
 pub made-part : (most₁ most₂ a b : ℕ) (f g : ℕ → ℕ) (table : List ℕ) {table₁ part : List ℕ} → a + b ≤ length table → most₁ ≤ 65535 → most₂ ≤ 65535

@@ -1,9 +1,10 @@
 -- What tables of any rule have in common: entries by a rule, and what a maker leaves of a lent table.
 use Prim.Native.Nat.{ℕ, zero, suc}
 use mathlib.Core.Bool.{Bool, cond, _||_}
-use mathlib.Core.List.{List, [], _∷_, _++_}
-use lib.ListN.{length, drop}
+use mathlib.Core.List.{List, [], _∷_}
+use lib.ListN.{length}
 use lib.Dec.{ltb}
+use Rattle.matching.specs.Received.{received}
 
 -- the largest j from 1 to n that passes a test, 0 if none; lists count from 0, so the test is told j - 1
 unfoldable pub largest : ℕ → (ℕ → Bool) → ℕ
@@ -15,7 +16,7 @@ unfoldable pub tabulate : ℕ → (ℕ → ℕ) → List ℕ
 tabulate zero rule = []
 tabulate (suc n) rule = rule 0 ∷ tabulate n (λ i. rule (suc i))
 
--- what a maker leaves of a lent table of 16-bit numbers: its entries at the front, the rest kept. All as before where the table is shorter than the entries,
+-- what a maker leaves of a lent table of 16-bit numbers: it received the entries, by the rule of a lent list. All as before where the table is shorter than the entries,
 -- or where the pattern is so long that an entry could be above 65,535; `most` is the largest value that the rule gives for a pattern of its length
 unfoldable pub made : ℕ → List ℕ → List ℕ → List ℕ
-made most entries table = cond (ltb (length table) (length entries) || ltb 65535 most) table (entries ++ drop (length entries) table)
+made most entries table = cond (ltb (length table) (length entries) || ltb 65535 most) table (received table entries)

@@ -12,7 +12,7 @@ use Rattle.matching.proofs.CaseAnalysis.{at-same}
 use Rattle.matching.proofs.Letters.{Downward, down-compared}
 use Rattle.matching.proofs.Find.{found-refused}
 use Rattle.matching.proofs.Progress.{Accepted, accepted, Progress, begins, missed, hit-down, miss-down, total-small, compared-small, same-list, past, keeps}
-use Rattle.tables.proofs.Tables.{Entries, Reads, first-entries, second-entries, made-part}
+use Rattle.tables.proofs.Tables.{Entries, Reads, first-entries, second-entries, made-part, both-received}
 use Rattle.letter_tables.specs.BadCharacter.{horspoolEntry, horspoolTable}
 use Rattle.letter_tables.specs.DoubleWindow.{doubleEntry, doubleTable}
 use Rattle.letter_tables.specs.Moves.{horspoolMove}
@@ -307,7 +307,10 @@ same-length-2 c = same-list (c .before .loop .inv .0)
 returns-2 : tie.Need-returns-2 Inv-loop μ-loop
 returns-2 c =
     let d = makers (c .before) in
-    keeps (past (c .before .loop .inv .0) (c .loop-test .left)) (allowed (first d .before .before) .none) (made d)
+    let e = first d .before .before in
+    let P = call e .args .pattern .now in
+    let g = allowed e in
+    keeps (past (c .before .loop .inv .0) (c .loop-test .left)) (g .none) (made d ∙ sym (both-received 256 65536 (horspoolEntry P) (pairEntry P) (call e .args .scratch .now) (g .limits .room)))
 
 pub find-spec : {M : Type 1} → statement M
 find-spec =

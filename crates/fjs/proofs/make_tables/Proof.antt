@@ -1,13 +1,13 @@
 -- `fjs::make_tables` meets its contract: two makers, each lent its own part of the scratch. Assumes nothing.
 use borrow.Author.Needs.{needs}
-use mathlib.Core.Path.{sym}
+use mathlib.Core.Path.{sym, _∙_}
 use Prim.Native.Nat.{_+_}
 use native.Mathlib.Omega.{arith}
 use lib.ListN.{length}
 use lib.Seq.{length-take-le}
 use Rattle.letter_tables.specs.BadCharacter.{sundayEntry}
 use Rattle.border_tables.specs.Kmp.{kmpEntry}
-use Rattle.tables.proofs.Tables.{made-front, made-part}
+use Rattle.tables.proofs.Tables.{made-front, made-part, both-received}
 use Rattle.fjs.proofs.make_tables.Statement.{statement}
 use Rattle.fjs.proofs.make_tables.Tie as tie
 
@@ -44,6 +44,7 @@ returns c =
     let m = length P in
     made-part (m + 1) m 256 (m + 1) (sundayEntry P) (kmpEntry P) (a .scratch .now) (omega arith) (omega arith) (omega arith)
     (made-front (m + 1) 256 (sundayEntry P) (a .scratch .now) (omega arith) (omega arith) (d .sunday-table .ensures)) (k .kmp-table .ensures)
+    ∙ sym (both-received 256 (m + 1) (sundayEntry P) (kmpEntry P) (a .scratch .now) (omega arith))
 
 pub make-tables-spec : {M : Type 1} → statement M
 make-tables-spec =

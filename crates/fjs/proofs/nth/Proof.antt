@@ -10,7 +10,8 @@ use lib.ListN.{length, getD}
 use lib.Dec.{leb}
 use borrow.Author.Tests.{eq-eqb, ne-eqb, le-leb, lt-leb, leb-true, leb-false}
 use Rattle.matching.specs.Occurrences.{occurrences, hasNth}
-use Rattle.matching.specs.Find.{refusalOf, withTables}
+use Rattle.matching.specs.Received.{received}
+use Rattle.matching.specs.Find.{refusalOf}
 use Rattle.matching.proofs.CaseAnalysis.{by-test}
 use Rattle.matching.proofs.Occurrences.{occurrences-below}
 use Rattle.matching.proofs.Progress.{Accepted, accepted}
@@ -52,7 +53,7 @@ module _ {P T scratch : List ℕ} {ordinal : ℕ} where
   unfolding nthAnswer
   refused {number} is some = let off = ne-eqb (refusalOf fjs P T scratch) 0 (λ z. some (is ∙ z)) in record { answer = rw (off, is); numbered = rw off is; meant = rw off; left = rw off }
 
-  located : Accepted fjs P T scratch → {r : Place} {scratch′ : List ℕ} → r ≡ nthOf (occurrences P T) ordinal → scratch′ ≡ withTables fjs P scratch
+  located : Accepted fjs P T scratch → {r : Place} {scratch′ : List ℕ} → r ≡ nthOf (occurrences P T) ordinal → scratch′ ≡ received scratch (fjs .tables P)
       → Located P T scratch ordinal r scratch′
   unfolding nthAnswer
   located g a t =

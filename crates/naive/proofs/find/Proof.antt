@@ -8,6 +8,7 @@ use lib.ListN.{length}
 use Rattle.matching.specs.Letters.{reach}
 use Rattle.matching.specs.Machine.{at}
 use Rattle.matching.proofs.Letters.{reach-nothing, Upward, up-first, up-next, up-stops, up-ends}
+use Rattle.matching.proofs.Received.{received-none}
 use Rattle.matching.proofs.Find.{found-refused}
 use Rattle.matching.proofs.Progress.{Accepted, accepted, Progress, begins, hit-up, miss-up, total-small, compared-small, same-list, past, keeps}
 use Rattle.naive.specs.Naive.{window, naive}
@@ -152,7 +153,7 @@ same-length : tie.Need-same-length Inv-loop2 μ-loop2 Inv-loop μ-loop
 same-length c = same-list (c .before .loop .inv .0)
 
 returns-2 : tie.Need-returns-2 Inv-loop2 μ-loop2 Inv-loop μ-loop
-returns-2 c = keeps (past (c .before .loop .inv .0) (c .loop-test .left)) (allowed (c .before .before) .none) refl
+returns-2 c = keeps (past (c .before .loop .inv .0) (c .loop-test .left)) (allowed (c .before .before) .none) (sym (received-none _))
 
 pub find-spec : {M : Type 1} → statement M
 find-spec =
