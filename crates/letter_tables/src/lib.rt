@@ -4,7 +4,7 @@
 ghost use mathlib.Core.Path.{_≡_};
 ghost use mathlib.Core.List.{_++_};
 ghost use Prim.Native.Nat.{_≤_};
-ghost use lib.ListN.{length, drop, replicate};
+ghost use lib.ListN.{length, drop};
 ghost use Rattle.letter_tables.specs.BadCharacter.{lastTable, sundayMade, horspoolMade};
 ghost use Rattle.letter_tables.specs.DoubleWindow.{doubleMade};
 
@@ -14,11 +14,7 @@ fn fill(pattern: &[u8], base: usize, count: usize, table: &mut [u16])
     ensures { λ _. ⌜ now (table .exit) ≡ lastTable (now (pattern .entry)) base count ++ drop 256 (now (table .entry)) ⌝ }
 {
     let absent = base as u16;
-    let mut c = 0;
-    while c < 256 {
-        table[c] = absent;
-        c += 1;
-    }
+    tables::set_all(&mut table[..256], absent);
     let mut q = 0;
     while q < count {
         table[pattern[q] as usize] = (base - 1 - q) as u16;
@@ -58,17 +54,6 @@ pub fn horspool_table(pattern: &[u8], table: &mut [u16])
     fill(pattern, m, count, table)
 }
 
-// Sets every entry of a row to one value.
-fn constant_row(row: &mut [u16], value: u16)
-    ensures { λ _. ⌜ now (row .exit) ≡ replicate (length (now (row .entry))) value ⌝ }
-{
-    let mut v = 0;
-    while v < row.len() {
-        row[v] = value;
-        v += 1;
-    }
-}
-
 // Sets a row to the entries given.
 fn copied_row(row: &mut [u16], entries: &[u16])
     requires { ⌜ length (now row) ≡ length (now entries) ⌝ }
@@ -101,7 +86,7 @@ pub fn double_window_table(pattern: &[u8], table: &mut [u16])
         let end = first + 256;
         let move_by_u = far[u] as usize;
         if move_by_u < 2 * m {
-            constant_row(&mut table[first..end], (move_by_u - m) as u16);
+            tables::set_all(&mut table[first..end], (move_by_u - m) as u16);
         } else {
             copied_row(&mut table[first..end], &far);
         }

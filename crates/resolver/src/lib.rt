@@ -45,17 +45,6 @@ fn clear_bytes(bytes: &mut [u8])
     }
 }
 
-// Makes every 16-bit number 0.
-fn clear_numbers(numbers: &mut [u16])
-    ensures { λ _. ⌜ now (numbers .exit) ≡ replicate (length (now (numbers .entry))) 0 ⌝ }
-{
-    let mut i = 0;
-    while i < numbers.len() {
-        numbers[i] = 0;
-        i += 1;
-    }
-}
-
 // Where the occurrence that a cue names stands: its phrase is folded into the buffer, and the search stops there.
 fn find_cue(
     letters: &[u8],
@@ -174,6 +163,6 @@ pub fn resolve(
         entries,
     );
     clear_bytes(phrase);
-    clear_numbers(scratch);
+    tables::set_all(scratch, 0);
     r
 }

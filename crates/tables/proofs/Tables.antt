@@ -4,7 +4,7 @@ use Prim.Native.Nat.{ℕ, zero, suc, _+_, _-_, _≤_, _<_}
 use native.Mathlib.Omega.{arith}
 use mathlib.Core.List.{List, [], _++_, append-assoc, append-nil}
 use mathlib.Core.Bool.{Bool, true, false, cond, true≢false}
-use lib.ListN.{length, getD, take, drop, set, take-append-drop, length-append, length-drop, length-set, drop-of-length-le, List·getD-append}
+use lib.ListN.{length, getD, take, drop, set, replicate, take-append-drop, length-append, length-drop, length-set, length-replicate, drop-of-length-le, List·getD-append, getD-replicate}
 use lib.Seq.{length-take-le, getD-take, getD-append-add, ext-getD, getD-set-same, getD-set-other, drop-set-lt, drop-drop, drop-at, take-at, take-all}
 use borrow.Rule.Slice.PartMut.{putMid, midOf}
 use lib.Dec.{eqb, ltb}
@@ -90,6 +90,17 @@ ruled-is {n} {rule} {table₀} {table} r =
 -- no entry is set yet
 pub ruled-none : (rule : ℕ → ℕ) (table : List ℕ) → Ruled 0 rule table table
 ruled-none rule table = record { entry = λ c h. absurd (omega arith); kept = refl; room = omega arith; long = refl }
+
+-- the first n are one value
+pub ruled-all : (n v : ℕ) (table : List ℕ) → n ≤ length table → Ruled n (λ _. v) table (replicate n v ++ drop n table)
+ruled-all n v table h =
+    let size : length (replicate n v) ≡ n = length-replicate n v in
+    record {
+      entry = λ c l. List·getD-append (replicate n v) (drop n table) 0 c (omega arith) ∙ getD-replicate n c v 0 l;
+      kept = drop-at (replicate n v) (drop n table) n size;
+      room = omega (arith, length-append (replicate n v) (drop n table));
+      long = length-append (replicate n v) (drop n table) ∙ omega (arith, length-drop n table);
+    }
 
 -- the next entry is set
 pub ruled-next : {n : ℕ} {rule : ℕ → ℕ} {table₀ table : List ℕ} → n < length table₀ → Ruled n rule table₀ table → (v : ℕ) → v ≡ rule n → Ruled (suc n) rule table₀ (set table n v)

@@ -108,26 +108,26 @@ cast-move-by-u c = let l = c .before in omega (arith, l .loop .inv .1 .1 .1 .ent
 mul-if3 : tie.Need-mul-if3 Inv-loop μ-loop
 mul-if3 c = omega arith
 
-mul-constant-row : tie.Need-mul-constant-row Inv-loop μ-loop
-mul-constant-row c = omega arith
+mul-set-all : tie.Need-mul-set-all Inv-loop μ-loop
+mul-set-all c = omega arith
 
-sub-constant-row : tie.Need-sub-constant-row Inv-loop μ-loop
-sub-constant-row c = omega arith
+sub-set-all : tie.Need-sub-set-all Inv-loop μ-loop
+sub-set-all c = omega arith
 
-part-constant-row-start : tie.Need-part-constant-row-start Inv-loop μ-loop
-part-constant-row-start c = omega arith
+part-set-all-start : tie.Need-part-set-all-start Inv-loop μ-loop
+part-set-all-start c = omega arith
 
-part-constant-row-end : tie.Need-part-constant-row-end Inv-loop μ-loop
-part-constant-row-end c = let l = c .before .before in omega (arith, l .loop .inv .0 .long)
+part-set-all-end : tie.Need-part-set-all-end Inv-loop μ-loop
+part-set-all-end c = let l = c .before .before in omega (arith, l .loop .inv .0 .long)
 
-sub-constant-row-2 : tie.Need-sub-constant-row-2 Inv-loop μ-loop
-sub-constant-row-2 c = let l = c .before .before .before in omega (arith, at-least (l .loop .inv .0) (omega arith) (l .loop .inv .1 .1 .0) (l .loop .inv .1 .1 .1))
+sub-set-all-2 : tie.Need-sub-set-all-2 Inv-loop μ-loop
+sub-set-all-2 c = let l = c .before .before .before in omega (arith, at-least (l .loop .inv .0) (omega arith) (l .loop .inv .1 .1 .0) (l .loop .inv .1 .1 .1))
 
-cast-constant-row : tie.Need-cast-constant-row Inv-loop μ-loop
-cast-constant-row c = let l = c .before .before .before in omega (arith, c .before .if3 .taken)
+cast-set-all : tie.Need-cast-set-all Inv-loop μ-loop
+cast-set-all c = let l = c .before .before .before in omega (arith, c .before .if3 .taken)
 
-constant-row-requires : tie.Need-constant-row-requires Inv-loop μ-loop
-constant-row-requires c κs = tt
+set-all-requires : tie.Need-set-all-requires Inv-loop μ-loop
+set-all-requires c κs = tt
 
 mul-copied-row : tie.Need-mul-copied-row Inv-loop μ-loop
 mul-copied-row c = omega arith
@@ -198,13 +198,13 @@ double-window-table-spec =
     array-read-move-by-u
     cast-move-by-u
     mul-if3
-    mul-constant-row
-    sub-constant-row
-    part-constant-row-start
-    part-constant-row-end
-    sub-constant-row-2
-    cast-constant-row
-    constant-row-requires
+    mul-set-all
+    sub-set-all
+    part-set-all-start
+    part-set-all-end
+    sub-set-all-2
+    cast-set-all
+    set-all-requires
     mul-copied-row
     sub-copied-row
     part-copied-row-start

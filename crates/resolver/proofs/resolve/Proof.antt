@@ -32,6 +32,16 @@ tested e = e .before .before .before
 abbrev accepted : tie.After-letters → tie.Else2
 accepted l = l .before .before .before .before
 
+-- the places after the text was folded, after the cues were resolved, and after the phrase buffer was cleared
+abbrev folding : tie.After-resolve-cues → tie.After-letters
+folding k = k .before .before .before .before .before .before .before
+
+abbrev resolving : tie.After-clear-bytes → tie.After-resolve-cues
+resolving b = b .before .before .before .before .before .before .before .before
+
+abbrev clearing : tie.After-set-all → tie.After-clear-bytes
+clearing n = n .before .before .before .before
+
 -- the memory passed its tests
 fine : (e : tie.Else1) → callRefusal (called (start e)) ≡ 0
 fine e = sym (e .before .memory-refusal .ensures) ∙ e .if1 .left
@@ -114,8 +124,8 @@ resolve-cues-requires c κs =
 clear-bytes-requires : tie.Need-clear-bytes-requires
 clear-bytes-requires c κs = search needs
 
-clear-numbers-requires : tie.Need-clear-numbers-requires
-clear-numbers-requires c κs = search needs
+set-all-requires : tie.Need-set-all-requires
+set-all-requires c κs = search needs
 
 same-length : tie.Need-same-length
 same-length c = search needs
@@ -131,11 +141,13 @@ same-length-4 c = search needs
 
 returns-4 : tie.Need-returns-4
 returns-4 c =
-    let k = c .before .before .before .before .before .before .before .before .before .before .before .before .before .before in
-    let l = k .before .before .before .before .before .before .before in
+    let n = c .before .before in
+    let b = clearing n in
+    let k = resolving b in
+    let l = folding k in
     resolved-works _ _ _ _ _ _ (fine (tested (accepted l))) (read (accepted l) .0) (three l) (copied l)
-    (c .before .before .before .before .before .before .clear-bytes .ensures ∙ ap (λ (n : ℕ). replicate n 0) (k .resolve-cues .kept .1 .1 .1 .1 .0))
-    (c .before .before .clear-numbers .ensures ∙ ap (λ (n : ℕ). replicate n 0) (k .resolve-cues .kept .1 .1 .1 .1 .1 .0))
+    (b .clear-bytes .ensures ∙ ap (λ (n : ℕ). replicate n 0) (k .resolve-cues .kept .1 .1 .1 .1 .0))
+    (n .set-all .ensures ∙ ap (λ (n : ℕ). replicate n 0) (k .resolve-cues .kept .1 .1 .1 .1 .1 .0))
     (k .resolve-cues .ensures)
 
 pub resolve-spec : {M : Type 1} → statement M
@@ -154,7 +166,7 @@ resolve-spec =
     slice-aggregate-resolve-cues
     resolve-cues-requires
     clear-bytes-requires
-    clear-numbers-requires
+    set-all-requires
     same-length
     same-length-2
     same-length-3
