@@ -9,14 +9,10 @@ use lib.ListN.{length}
 use lib.Dec.{leb}
 use borrow.Author.Tests.{leb-true, leb-false}
 use Rattle.matching.specs.declared.Finding.{Finding}
-use Rattle.matching.specs.Find.{Engine, Found}
+use Rattle.matching.specs.Find.{Engine, Found, Longer, Same}
 use Rattle.matching.proofs.CaseAnalysis.{by-test}
-use Rattle.matching.proofs.Find.{found-answer, found-listed, found-none, Longer, found-longer}
+use Rattle.matching.proofs.Find.{found-answer, found-listed, found-none, found-longer}
 use Rattle.find.specs.Find.{engineOf, Answered}
-
-pub record Same (r₁ r₂ : Finding) (list₁ list₂ : List ℕ) : Type 0 where
-  pub total : r₁ .total ≡ r₂ .total
-  pub list : list₁ ≡ list₂
 
 pub engines-agree : {e₁ e₂ : Engine} {P T scratch₁ scratch₂ list : List ℕ} {r₁ r₂ : Finding} {scratch₁′ scratch₂′ list₁′ list₂′ : List ℕ} → Found e₁ P T scratch₁ list r₁ scratch₁′ list₁′
     → Found e₂ P T scratch₂ list r₂ scratch₂′ list₂′ → r₁ .refusal ≡ 0 → r₂ .refusal ≡ 0 → Same r₁ r₂ list₁′ list₂′

@@ -12,7 +12,7 @@ use Rattle.matching.specs.declared.Finding.{Finding}
 use Rattle.matching.specs.Occurrences.{occurrences}
 use Rattle.matching.specs.Received.{received}
 use Rattle.matching.specs.Machine.{runFrom, comparedIn}
-use Rattle.matching.specs.Find.{findTests, refusal, Engine, compared, refusalOf, Found}
+use Rattle.matching.specs.Find.{findTests, refusal, Engine, compared, refusalOf, Found, Longer}
 use Rattle.matching.proofs.CaseAnalysis.{by-test}
 use Rattle.matching.proofs.Refusals.{Passed, none-met, numbersTo, all-passed, met-most}
 use Rattle.matching.proofs.Received.{received-none}
@@ -48,12 +48,6 @@ refusal-most m n has needs = met-most 5 (findTests m n has needs) refl
 pub longer-costs : (e : Engine) (P T : List ℕ) → length T < length P → compared e P T ≡ 0
 unfolding compared runFrom comparedIn
 longer-costs e P T h = ap comparedIn (windows-off (suc (length T)) (e .steps) P T 0 0 (omega arith))
-
--- total 0 and comparisons 0, the list as before, and the tables filled all the same
-pub record Longer (e : Engine) (P scratch list : List ℕ) (r : Finding) (scratch′ list′ : List ℕ) : Type 0 where
-  pub answer : r ≡ record { refusal = 0; total = 0; comparisons = 0 }
-  pub left : scratch′ ≡ received scratch (e .tables P)
-  pub listed : list′ ≡ list
 
 module _ {e : Engine} {P T scratch list : List ℕ} where
   -- a refusal leaves all as before

@@ -11,7 +11,7 @@ use lib.ListN.{length, getD, take, drop, length-drop, length-take}
 use lib.Seq.{getD-take, getD-drop, ext-getD}
 use lib.Dec.{eqb, ltb}
 use borrow.Author.Tests.{eqb-true, eqb-false, eq-eqb, ltb-true, ltb-false}
-use Rattle.matching.specs.Occurrences.{same, occursAt, occursFrom, occurrences}
+use Rattle.matching.specs.Occurrences.{same, occursAt, occursFrom, occurrences, Occurs}
 use Rattle.matching.proofs.CaseAnalysis.{by-test}
 
 -- ---- equal lists
@@ -109,11 +109,6 @@ unfolding occurrences
 occurrences-few P T = few (suc (length T)) P T 0
 
 -- ---- the two laws
-
--- what source document 001 asks of a position
-pub record Occurs (P T : List ℕ) (k : ℕ) : Type 0 where
-  pub inside : k + length P ≤ length T
-  pub equal : take (length P) (drop k T) ≡ P
 
 from-sound : (c : ℕ) (P T : List ℕ) (k x : ℕ) → List·Memᴰ x (occursFrom c P T k) → (k ≤ x) × ((x < k + c) × (occursAt P T x ≡ true))
 unfolding occursFrom

@@ -52,3 +52,14 @@ pub record Found (e : Engine) (P T scratch list : List ℕ) (r : Finding) (scrat
   pub answer : r ≡ cond (accepts e P T scratch) (record { refusal = 0; total = length (occurrences P T); comparisons = compared e P T }) (record { refusal = refusalOf e P T scratch; total = 0; comparisons = 0 })
   pub left : scratch′ ≡ cond (accepts e P T scratch) (received scratch (e .tables P)) scratch
   pub listed : list′ ≡ cond (accepts e P T scratch) (received list (occurrences P T)) list
+
+-- what a find leaves of a pattern that is longer than the text: total 0 and comparisons 0, the list as before, and the tables filled all the same
+pub record Longer (e : Engine) (P scratch list : List ℕ) (r : Finding) (scratch′ list′ : List ℕ) : Type 0 where
+  pub answer : r ≡ record { refusal = 0; total = 0; comparisons = 0 }
+  pub left : scratch′ ≡ received scratch (e .tables P)
+  pub listed : list′ ≡ list
+
+-- two finds gave one total and left one list
+pub record Same (r₁ r₂ : Finding) (list₁ list₂ : List ℕ) : Type 0 where
+  pub total : r₁ .total ≡ r₂ .total
+  pub list : list₁ ≡ list₂

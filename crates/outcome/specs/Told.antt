@@ -4,7 +4,7 @@ use Prim.Native.Nat.{ℕ, _+_, _*_, _≤_, _<_}
 use mathlib.Core.Bool.{true, false}
 use mathlib.Core.List.{List, [], _∷_, _++_, map}
 use lib.ListN.{length, getD, take, drop}
-use Rattle.matching.proofs.Occurrences.{Occurs}
+use Rattle.matching.specs.Occurrences.{Occurs}
 use Rattle.cue_book.specs.Format.{Cue}
 use Rattle.line_column.specs.LineColumn.{lineColumn}
 use Rattle.outcome.specs.Outcome.{Numbered, cueOccurrences, isThere, placeOf, cueFault, Judged, entriesOf}
