@@ -1,20 +1,23 @@
 -- An engine's line from its find, and the lines of all engines. Assumes nothing.
-use mathlib.Core.Path.{_≡_, ap, ap₂, _∙_}
-use Prim.Native.Nat.{ℕ, zero, suc, _≤_}
+use mathlib.Core.Path.{_≡_, sym, ap, ap₂, _∙_}
+use Prim.Native.Nat.{ℕ, zero, suc, _+_, _≤_, _<_}
 use native.Mathlib.Omega.{arith}
-use mathlib.Core.List.{List, [], _∷_, _++_}
-use lib.ListN.{length, take}
+use native.Mathlib.Numerals.{add-one}
+use mathlib.Core.List.{List, [], _∷_, _++_, append-nil, append-assoc}
+use lib.ListN.{length, getD, take}
+use lib.Seq.{take-all}
 use borrow.Author.Tests.{eq-eqb, ne-eqb}
 use Rattle.matching.specs.declared.Finding.{Finding}
 use Rattle.matching.specs.Occurrences.{occurrences}
 use Rattle.matching.specs.Find.{Engine, compared, refusal, refusalOf}
 use Rattle.matching.proofs.Find.{within, none-refused, found-answer, found-listed}
+use Rattle.naive.specs.Naive.{naive}
 use Rattle.find.specs.Find.{engineOf, Answered}
 use Rattle.pieces.specs.Pieces.{putAll, Laid}
 use Rattle.pieces.proofs.Laid.{laid-none, laid-then}
 use Rattle.finder_lines.specs.Lines.{field, fields, lineOf, refusedLine}
 use Rattle.finder_lines.proofs.Fields.{fields-received}
-use Rattle.finder_output.specs.Printed.{Row, rows, engineLine, engineLines, answered}
+use Rattle.finder_output.specs.Printed.{Row, rows, rowAt, engineLine, engineLines, answered}
 
 -- 1,281 scratch entries are enough for methods 0 to 4
 entries-enough : (method m : ℕ) → method ≤ 4 → m ≤ 1024 → engineOf method .entries m ≤ 1281
@@ -43,15 +46,28 @@ found-line {method} {P} {T} {scratch} {list} {r} {scratch′} {list′} name a l
     (fields-received list found ∙ ap (λ (n : ℕ). fields (length found) (take n found)) places)
 
 module _ (P T : List ℕ) where
-  -- no line, and one engine's line with those of the others after it
-  pub rows-none : (buffer : List ℕ) (at : ℕ) → Laid buffer at (putAll buffer at (engineLines [] P T))
+  -- the lines of one row more
+  lines-more : (these : List Row) (number : ℕ) (other : Row) → number < length these → engineLines (take (suc number) these) P T ≡ engineLines (take number these) P T ++ engineLine (getD these number other) P T
   unfolding engineLines
-  rows-none buffer at = laid-none buffer at
+  lines-more [] number other h = absurd (omega arith)
+  lines-more (row ∷ others) zero other h = append-nil (engineLine row P T)
+  lines-more (row ∷ others) (suc number) other h =
+      ap (λ (l : List (List ℕ)). engineLine row P T ++ l) (lines-more others number other (omega arith))
+      ∙ sym (append-assoc (engineLine row P T) (engineLines (take number others) P T) (engineLine (getD others number other) P T))
 
-  pub rows-more : (row : Row) (others : List Row) (buffer₀ : List ℕ) (at : ℕ) {buffer buffer′ : List ℕ} {r r′ : ℕ} → Laid buffer r (putAll buffer₀ at (engineLine row P T))
-      → Laid buffer′ r′ (putAll buffer r (engineLines others P T)) → Laid buffer′ r′ (putAll buffer₀ at (engineLines (row ∷ others) P T))
+  -- the rows before that number are laid: none yet, one more, and all
+  pub rows-none : (buffer : List ℕ) → Laid buffer 0 (putAll buffer 0 (engineLines (take 0 rows) P T))
   unfolding engineLines
-  rows-more row others buffer₀ at l m = laid-then buffer₀ at (engineLine row P T) (engineLines others P T) l m
+  rows-none buffer = laid-none buffer 0
+
+  pub rows-more : (buffer₀ : List ℕ) (number : ℕ) {buffer buffer′ : List ℕ} {r r′ : ℕ} → number < length rows → Laid buffer r (putAll buffer₀ 0 (engineLines (take number rows) P T))
+      → Laid buffer′ r′ (putAll buffer r (engineLine (rowAt number) P T)) → Laid buffer′ r′ (putAll buffer₀ 0 (engineLines (take (number + 1) rows) P T))
+  rows-more buffer₀ number h l m =
+      rw (add-one, lines-more rows number (record { name = []; engine = naive }) h) (laid-then buffer₀ 0 (engineLines (take number rows) P T) (engineLine (rowAt number) P T) l m)
+
+  pub rows-all : (buffer₀ : List ℕ) (number : ℕ) {buffer : List ℕ} {r : ℕ} → length rows ≤ number → Laid buffer r (putAll buffer₀ 0 (engineLines (take number rows) P T))
+      → Laid buffer r (putAll buffer₀ 0 (engineLines rows P T))
+  rows-all buffer₀ number h l = rw (← take-all number rows h) l
 
   -- what is answered: a refusal, and no refusal
   pub answered-refused : {number : ℕ} → number ≡ refusal (length P) (length T) 0 0 → (number ≡ 0 → ⊥) → answered P T ≡ refusedLine number

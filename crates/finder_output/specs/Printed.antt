@@ -3,7 +3,7 @@ use mathlib.Core.Path.{_≡_}
 use Prim.Native.Nat.{ℕ}
 use mathlib.Core.Bool.{cond}
 use mathlib.Core.List.{List, [], _∷_, _++_}
-use lib.ListN.{length, take, drop}
+use lib.ListN.{length, getD, take, drop}
 use lib.Dec.{eqb, ltb}
 use Rattle.matching.specs.Occurrences.{occurrences}
 use Rattle.matching.specs.Find.{Engine, compared, refusal}
@@ -39,6 +39,10 @@ rows =
     ∷ record { name = 115 ∷ 117 ∷ 110 ∷ 100 ∷ 97 ∷ 121 ∷ []; engine = sunday }
     ∷ record { name = 102 ∷ 106 ∷ 115 ∷ []; engine = fjs }
     ∷ []
+
+-- the row of that number, the first being 0
+abbrev pub rowAt : ℕ → Row
+rowAt number = getD rows number (record { name = []; engine = naive })
 
 -- the line of one engine: its name, the total, the comparisons, and at most the first 4,096 places
 unfoldable pub engineLine : Row → List ℕ → List ℕ → List (List ℕ)

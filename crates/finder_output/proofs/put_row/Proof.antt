@@ -1,0 +1,106 @@
+-- `finder_output::put_row` meets its contract: each arm puts the line of its row. Assumes nothing.
+use borrow.Author.Needs.{needs}
+use mathlib.Core.Path.{_≡_}
+use native.Mathlib.Omega.{arith}
+use Rattle.find.specs.Find.{engineOf}
+use Rattle.finder_output.specs.Printed.{rows}
+use Rattle.finder_output.proofs.put_row.Statement.{statement}
+use Rattle.finder_output.proofs.put_row.Tie as tie
+
+-- the call, from the arm for the last row
+abbrev start : tie.At-match-rest → tie.Start
+start m = m .before .before .before .before
+
+slice-aggregate-put-engine : tie.Need-slice-aggregate-put-engine
+slice-aggregate-put-engine c = search needs
+
+put-engine-requires : tie.Need-put-engine-requires
+put-engine-requires c κs = search needs
+
+slice-aggregate-put-engine-2 : tie.Need-slice-aggregate-put-engine-2
+slice-aggregate-put-engine-2 c = search needs
+
+put-engine-requires-2 : tie.Need-put-engine-requires-2
+put-engine-requires-2 c κs = search needs
+
+slice-aggregate-put-engine-3 : tie.Need-slice-aggregate-put-engine-3
+slice-aggregate-put-engine-3 c = search needs
+
+put-engine-requires-3 : tie.Need-put-engine-requires-3
+put-engine-requires-3 c κs = search needs
+
+slice-aggregate-put-engine-4 : tie.Need-slice-aggregate-put-engine-4
+slice-aggregate-put-engine-4 c = search needs
+
+put-engine-requires-4 : tie.Need-put-engine-requires-4
+put-engine-requires-4 c κs = search needs
+
+slice-aggregate-put-engine-5 : tie.Need-slice-aggregate-put-engine-5
+slice-aggregate-put-engine-5 c = search needs
+
+put-engine-requires-5 : tie.Need-put-engine-requires-5
+put-engine-requires-5 c κs = search needs
+
+same-length : tie.Need-same-length
+same-length c = search needs
+
+returns : tie.Need-returns
+unfolding rows engineOf
+returns c = let e = c .before .before in rw (e .before .before .before .match .keys1) (e .put-engine .ensures)
+
+same-length-2 : tie.Need-same-length-2
+same-length-2 c = search needs
+
+returns-2 : tie.Need-returns-2
+unfolding rows engineOf
+returns-2 c = let e = c .before .before in rw (e .before .before .before .match .keys2) (e .put-engine2 .ensures)
+
+same-length-3 : tie.Need-same-length-3
+same-length-3 c = search needs
+
+returns-3 : tie.Need-returns-3
+unfolding rows engineOf
+returns-3 c = let e = c .before .before in rw (e .before .before .before .match .keys3) (e .put-engine3 .ensures)
+
+same-length-4 : tie.Need-same-length-4
+same-length-4 c = search needs
+
+returns-4 : tie.Need-returns-4
+unfolding rows engineOf
+returns-4 c = let e = c .before .before in rw (e .before .before .before .match .keys4) (e .put-engine4 .ensures)
+
+same-length-5 : tie.Need-same-length-5
+same-length-5 c = search needs
+
+returns-5 : tie.Need-returns-5
+unfolding rows engineOf
+returns-5 c =
+    let e = c .before .before in
+    let m = e .before .before .before in
+    let is : start m .args .row ≡ 4 = omega (arith, start m .pre .0, m .match .rest) in
+    rw is (e .put-engine5 .ensures)
+
+pub put-row-spec : {M : Type 1} → statement M
+put-row-spec =
+    tie.close
+    (tie.spec
+    slice-aggregate-put-engine
+    put-engine-requires
+    slice-aggregate-put-engine-2
+    put-engine-requires-2
+    slice-aggregate-put-engine-3
+    put-engine-requires-3
+    slice-aggregate-put-engine-4
+    put-engine-requires-4
+    slice-aggregate-put-engine-5
+    put-engine-requires-5
+    same-length
+    returns
+    same-length-2
+    returns-2
+    same-length-3
+    returns-3
+    same-length-4
+    returns-4
+    same-length-5
+    returns-5)
