@@ -17,7 +17,8 @@ use Rattle.sunday.specs.Sunday.{sunday}
 use Rattle.fjs.specs.Fjs.{window, fjs}
 use Rattle.double_window.specs.DoubleWindow.{doubleWindow}
 use Rattle.fold.specs.Fold.{folded}
-use Rattle.cue_book.specs.Format.{Cue, cueWith, bookBytes}
+use Rattle.cues.specs.Cue.{Cue, cueWith}
+use Rattle.cue_book.specs.Book.{bookBytes}
 use Rattle.cue_book.specs.Reading.{Reading, refused, cues, readBook}
 use Rattle.outcome.specs.Outcome.{Outcome, outcome}
 

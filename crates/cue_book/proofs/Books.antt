@@ -13,12 +13,14 @@ use Rattle.matching.proofs.CaseAnalysis.{by-test}
 use Rattle.cue_fields.specs.Field.{fieldBody}
 use Rattle.cue_fields.specs.Form.{formSize, afterForm}
 use Rattle.cue_fields.proofs.Fields.{after-field}
-use Rattle.cue_book.specs.declared.CueAnswer.{CueAnswer}
+use Rattle.cues.specs.declared.CueAnswer.{CueAnswer}
+use Rattle.cues.specs.Cue.{Cue, headForm}
+use Rattle.cues.specs.Reading.{cueRefusal, cueSize, afterCue, cueOf}
+use Rattle.cues.specs.Places.{cueEnd, titleStart, titleLength, cueAt, CueRead}
+use Rattle.cues.proofs.Cues.{cue-most, cue-phrase, cue-inside, title-body, title-last, CueAt, title-ends}
 use Rattle.cue_book.specs.declared.Part.{Part}
-use Rattle.cue_book.specs.Format.{Cue, headForm}
-use Rattle.cue_book.specs.Reading.{afterCue, cueRefusal, cueSize, cueOf, Reading, refused, cues, followed, readUpTo, readBook, refusalOf, numberOf, cuesIn, titleAt}
-use Rattle.cue_book.specs.Places.{cueEnd, titleStart, titleLength, cueAt, CueRead, cuePlace, CueBack, titleIn, front, titlePart, Shows, TitlePlaced}
-use Rattle.cue_book.proofs.Cues.{cue-most, cue-phrase, cue-inside, title-body, title-last, CueAt, title-ends}
+use Rattle.cue_book.specs.Reading.{Reading, refused, cues, followed, readUpTo, readBook, refusalOf, numberOf, cuesIn, titleAt}
+use Rattle.cue_book.specs.Places.{cuePlace, CueBack, titleIn, front, titlePart, Shows, TitlePlaced}
 
 -- ---- reading on from here, by its cases
 
@@ -38,10 +40,6 @@ read-refused more index rest h e some = rw (ne-eqb (length rest) 0 h, ne-eqb (cu
 pub read-next : (more index : ℕ) (rest : List ℕ) → (length rest ≡ 0 → ⊥) → cueRefusal rest ≡ 0 → readUpTo (suc more) index rest ≡ followed (cueOf rest) (readUpTo more (suc index) (afterCue rest))
 unfolding readUpTo
 read-next more index rest h e = rw (ne-eqb (length rest) 0 h, eq-eqb (cueRefusal rest) 0 e)
-
--- a cue that is read takes some bytes
-pub cue-some : (rest : List ℕ) → cueRefusal rest ≡ 0 → length rest ≡ 0 → ⊥
-cue-some rest e z = omega (arith, cue-phrase rest e .header)
 
 -- ---- a reading that begins with a cue
 
@@ -257,10 +255,6 @@ left-first {book} {index} {place} {c} {later} l =
             reads = ap₂ (λ (i : ℕ) (x : List ℕ). readUpTo (b .fewer) i x) (add-one index) (ap (λ (k : ℕ). drop k book) e ∙ after-field book place (cueSize (drop place book))) ∙ b .then;
           };
     }
-
--- none is left where the book ends
-pub left-none : {book : List ℕ} {index place : ℕ} → Left book index place [] → length book ≤ place
-left-none {book} {index} {place} l = omega (arith, ends (l .more) index (drop place book) (l .reads), length-drop place book)
 
 -- ---- at a cue of a walk: the cues read so far, and the rest, are the whole book
 

@@ -1,4 +1,2 @@
--- The laws of cues, of their values, and of books.
-pub mod Cues
-pub mod Values
+-- The laws of books.
 pub mod Books

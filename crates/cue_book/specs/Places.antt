@@ -4,54 +4,17 @@ use Prim.Native.Nat.{ℕ, zero, suc, _+_, _≤_}
 use mathlib.Core.Bool.{cond}
 use mathlib.Core.List.{List, [], _∷_}
 use lib.ListN.{length, take, drop}
-use lib.Dec.{eqb, ltb}
+use lib.Dec.{ltb}
 use denote.Ref.{RefT}
-use Rattle.cue_fields.specs.Field.{numberIn, fieldLength, fieldSize, part}
-use Rattle.cue_fields.specs.Form.{formSize, afterForm}
-use Rattle.cue_book.specs.declared.CueAnswer.{CueAnswer}
-use Rattle.cue_book.specs.declared.CueAnswer.the-variants as entry
+use Rattle.cue_fields.specs.Field.{numberIn}
+use Rattle.cue_fields.specs.Form.{formSize}
+use Rattle.cues.specs.declared.CueAnswer.{CueAnswer}
+use Rattle.cues.specs.Cue.{Cue}
+use Rattle.cues.specs.Reading.{cueSize}
+use Rattle.cues.specs.Places.{cueNumber, cueEnd, cuesMeant, titleStart, titleLength}
 use Rattle.cue_book.specs.declared.Answer.{Answer}
 use Rattle.cue_book.specs.declared.Part.{Part}
-use Rattle.cue_book.specs.Format.{Cue, headForm, cueWith}
-use Rattle.cue_book.specs.Reading.{cueRefusal, cueSize, cueOf, readBook, refusalOf, numberOf, cuesIn, titleAt}
-
--- ---- a cue
-
--- the refusal's number of an answer, 0 for a cue
-abbrev pub cueNumber : CueAnswer → ℕ
-cueNumber (entry.Cue phrase phrase-end ordinal title end) = 0
-cueNumber (entry.Refused number) = number
-
--- the place after the cue, 0 for a refusal
-abbrev pub cueEnd : CueAnswer → ℕ
-cueEnd (entry.Cue phrase phrase-end ordinal title end) = end
-cueEnd (entry.Refused number) = 0
-
--- the cue that an answer means: its phrase and its title are parts of the book. A refusal means none
-abbrev pub cuesMeant : List ℕ → CueAnswer → List Cue
-cuesMeant book (entry.Cue phrase phrase-end ordinal title end) = cueWith (part book phrase phrase-end) ordinal (part book title end) ∷ []
-cuesMeant book (entry.Refused number) = []
-
--- where a cue's title starts, from the cue on: after the fields before it and its header; and its length
-abbrev pub titleStart : List ℕ → ℕ
-titleStart rest = formSize headForm rest + 3
-
-abbrev pub titleLength : List ℕ → ℕ
-titleLength rest = fieldLength (afterForm headForm rest)
-
--- the answer at a place
-unfoldable pub cueAt : List ℕ → ℕ → CueAnswer
-unfolding cueRefusal cueOf formSize numberIn
-cueAt book place =
-    cond (eqb (cueRefusal (drop place book)) 0)
-    (entry.Cue (place + 3) (place + fieldSize (drop place book)) (cueOf (drop place book) .ordinal) (place + titleStart (drop place book)) (place + cueSize (drop place book)))
-    (entry.Refused (cueRefusal (drop place book)))
-
--- what is read there, its number in document 01, and the cue that it means
-pub record CueRead (book : List ℕ) (place : ℕ) (r : CueAnswer) : Type 0 where
-  pub answer : r ≡ cueAt book place
-  pub number : cueNumber r ≡ cueRefusal (drop place book)
-  pub meant : cuesMeant book r ≡ cond (eqb (cueRefusal (drop place book)) 0) (cueOf (drop place book) ∷ []) []
+use Rattle.cue_book.specs.Reading.{readBook, refusalOf, numberOf, cuesIn, titleAt}
 
 -- ---- a book
 

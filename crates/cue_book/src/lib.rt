@@ -1,25 +1,12 @@
-// This crate reads cues and whole cue books, and shows a title (document 01, "Cue book, folding, lines").
-// It depends on `cue_fields` for a field and for fields in the order of a list, and on `matching` for case analysis.
-// proofs/Values.antt has the laws that a cue written reads back, and that a cue read was so written; `cue_writer` writes one.
-use cue_fields::Due;
-use cue_fields::FieldAnswer;
+// This crate reads whole cue books, and shows a title (document 01, "Cue book, folding, lines").
+// It depends on `cues` for one cue, on `cue_fields` for the size of a cue's fields, and on `matching` for its case analysis and its parts of a slice.
+// proofs/Books.antt has the laws of a book read cue by cue; `cue_writer` has those that a book written reads back.
+use cues::CueAnswer;
 ghost use mathlib.Core.Path.{_≡_};
 ghost use Prim.Native.Nat.{_≤_};
 ghost use lib.ListN.{length, take};
-ghost use Rattle.cue_book.specs.Places.{cueNumber, CueRead, bookAnswer, TitlePlaced, TitleShown};
+ghost use Rattle.cue_book.specs.Places.{bookAnswer, TitlePlaced, TitleShown};
 ghost use Rattle.cue_book.specs.Walking.{Walked};
-
-// What reading a cue gives: its phrase and its title as the parts of the book where they stand, its ordinal, and the place after it, where the title ends; or the refusal's number.
-pub enum CueAnswer {
-    Cue {
-        phrase: usize,
-        phrase_end: usize,
-        ordinal: u32,
-        title: usize,
-        end: usize,
-    },
-    Refused(u32),
-}
 
 // A refusal with the cue's index, or 0 with a number of cues or of bytes.
 #[repr(C)]
@@ -43,56 +30,6 @@ struct WalkAnswer {
     len: usize,
 }
 
-// Reads the cue at a place of a book: its three fields in their order, the first refusal leaving at the spot.
-pub fn read_cue(book: &[u8], place: usize) -> CueAnswer
-    ensures { λ r. ⌜ CueRead (now (book .entry)) place r ⌝ }
-{
-    let first = cue_fields::read_field(book, place, Due::Phrase);
-    let FieldAnswer::Body {
-        start: phrase,
-        end: phrase_end,
-    } = first
-    else {
-        return CueAnswer::Refused(cue_fields::field_number(first));
-    };
-    let second = cue_fields::read_field(book, phrase_end, Due::Ordinal);
-    let FieldAnswer::Body {
-        start: body,
-        end: ordinal_end,
-    } = second
-    else {
-        return CueAnswer::Refused(cue_fields::field_number(second));
-    };
-    let third = cue_fields::read_field(book, ordinal_end, Due::Title);
-    let FieldAnswer::Body { start: title, end } = third else {
-        return CueAnswer::Refused(cue_fields::field_number(third));
-    };
-    let ordinal = cue_fields::number_at(&book[body..ordinal_end]) as u32;
-    CueAnswer::Cue {
-        phrase,
-        phrase_end,
-        ordinal,
-        title,
-        end,
-    }
-}
-
-// The refusal's number of a cue's answer, 0 for a cue.
-fn cue_number(answer: CueAnswer) -> u32
-    ensures { λ r. ⌜ r ≡ cueNumber answer ⌝ }
-{
-    match answer {
-        CueAnswer::Cue {
-            phrase: _,
-            phrase_end: _,
-            ordinal: _,
-            title: _,
-            end: _,
-        } => 0,
-        CueAnswer::Refused(number) => number,
-    }
-}
-
 // Reads a whole book in one pass, and notes where the title of the wanted cue stands.
 fn walk(book: &[u8], wanted: u32) -> WalkAnswer
     ensures { λ r. ⌜ Walked (now (book .entry)) wanted r ⌝ }
@@ -110,7 +47,7 @@ fn walk(book: &[u8], wanted: u32) -> WalkAnswer
                 len: 0,
             };
         }
-        let cue = read_cue(book, place);
+        let cue = cues::read_cue(book, place);
         let CueAnswer::Cue {
             phrase: _,
             phrase_end: _,
@@ -120,7 +57,7 @@ fn walk(book: &[u8], wanted: u32) -> WalkAnswer
         } = cue
         else {
             return WalkAnswer {
-                refusal: cue_number(cue),
+                refusal: cues::cue_number(cue),
                 number: index,
                 start: 0,
                 len: 0,

@@ -11,14 +11,17 @@ use borrow.Author.Tests.{eq-eqb}
 use Rattle.pieces.specs.Pieces.{joined}
 use Rattle.cue_fields.specs.Form.{Bytes}
 use Rattle.cue_fields.proofs.Form.{bytes-drop}
+use Rattle.cues.specs.declared.CueAnswer.{CueAnswer}
+use Rattle.cues.specs.Cue.{Cue, cueBytes, Valid}
+use Rattle.cues.specs.Reading.{afterCue, cueSize}
+use Rattle.cues.specs.Places.{cueEnd, cuesMeant, CueRead}
+use Rattle.cues.proofs.Cues.{cue-inside, cue-some}
+use Rattle.cues.proofs.Values.{cue-back, cue-put}
 use Rattle.cue_book.specs.declared.Answer.{Answer}
-use Rattle.cue_book.specs.declared.CueAnswer.{CueAnswer}
-use Rattle.cue_book.specs.Format.{Cue, cueBytes, bookBytes, Valid, AllValid}
-use Rattle.cue_book.specs.Reading.{afterCue, cueSize, cues, followed, readUpTo, readBook, refusalOf, cuesIn}
-use Rattle.cue_book.specs.Places.{cueEnd, cuesMeant, CueRead, cuePlace}
-use Rattle.cue_book.proofs.Cues.{cue-inside}
-use Rattle.cue_book.proofs.Values.{cue-back, cue-put}
-use Rattle.cue_book.proofs.Books.{cue-some, read-end, read-next, begins, ends, accepted-book, place-next, cue-there}
+use Rattle.cue_book.specs.Book.{bookBytes, AllValid}
+use Rattle.cue_book.specs.Reading.{cues, followed, readUpTo, readBook, refusalOf, cuesIn}
+use Rattle.cue_book.specs.Places.{cuePlace}
+use Rattle.cue_book.proofs.Books.{read-end, read-next, begins, ends, accepted-book, place-next, cue-there}
 use Rattle.cue_writer.specs.Writing.{writeRefusal}
 use Rattle.cue_writer.specs.Inverse.{WroteCue, Assembled, Accepted}
 use Rattle.cue_writer.proofs.Writing.{fitting}

@@ -11,7 +11,7 @@ use Rattle.pieces.proofs.Laid.{laid-front, joined-append}
 use Rattle.cue_fields.specs.declared.Due.{Due}
 use Rattle.cue_fields.specs.Field.{tagOf, twoBytes, fieldBytes}
 use Rattle.cue_fields.specs.Form.{formBytes}
-use Rattle.cue_book.specs.Format.{Cue, cueForm, cueBodies, cueBytes, Valid}
+use Rattle.cues.specs.Cue.{Cue, cueForm, cueBodies, cueBytes, Valid}
 use Rattle.cue_writer.specs.Writing.{writeTests, writeRefusal, Written, fieldPieces}
 
 -- a cue's length

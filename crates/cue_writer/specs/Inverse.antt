@@ -3,8 +3,9 @@ use mathlib.Core.Path.{_≡_}
 use Prim.Native.Nat.{ℕ, _≤_}
 use mathlib.Core.List.{List, [], _∷_}
 use lib.ListN.{length, take}
+use Rattle.cues.specs.Cue.{Cue}
 use Rattle.cue_book.specs.declared.Answer.{Answer}
-use Rattle.cue_book.specs.Format.{Cue, bookBytes, AllValid}
+use Rattle.cue_book.specs.Book.{bookBytes, AllValid}
 use Rattle.cue_writer.specs.Writing.{Written}
 
 -- these are the bytes that writing the cue put at the start of some buffer

@@ -1,12 +1,12 @@
 // This crate writes a cue (document 01, "Cue book, folding, lines").
-// It depends on `cue_book` for the format, on `cue_fields` for a field's bytes, on `pieces` for laying them out, and on `matching` for its tables of refusals.
+// It depends on `cues` and `cue_book` for the format, on `cue_fields` for a field's bytes, on `pieces` for laying them out, and on `matching` for its tables of refusals.
 // Demand 2 is carried by proofs/Inverse.antt: what is written reads back (`written-reads`), and what is accepted was so written (`accepted-written`).
 use cue_book::Answer;
 ghost use mathlib.Core.Path.{_≡_};
 ghost use Prim.Native.Nat.{_≤_};
 ghost use lib.ListN.{length};
 ghost use Rattle.pieces.specs.Pieces.{Laid, putAll};
-ghost use Rattle.cue_book.specs.Format.{cueWith};
+ghost use Rattle.cues.specs.Cue.{cueWith};
 ghost use Rattle.cue_writer.specs.Writing.{writeRefusal, Written, fieldPieces};
 
 // The refusal of a cue to be written into a buffer of so many bytes, 0 for none.

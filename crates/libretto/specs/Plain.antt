@@ -8,8 +8,8 @@ use Rattle.cue_fields.specs.declared.Due.the-variants.{Phrase, Ordinal, Title}
 use Rattle.cue_fields.specs.declared.FieldAnswer.{FieldAnswer}
 use Rattle.cue_fields.specs.declared.FieldAnswer.the-variants as field
 use Rattle.cue_fields.specs.Field.{fieldAt}
-use Rattle.cue_book.specs.declared.CueAnswer.{CueAnswer}
-use Rattle.cue_book.specs.declared.CueAnswer.the-variants as cue
+use Rattle.cues.specs.declared.CueAnswer.{CueAnswer}
+use Rattle.cues.specs.declared.CueAnswer.the-variants as cue
 use Rattle.libretto.specs.declared.PlainField.{PlainField}
 use Rattle.libretto.specs.declared.PlainCue.{PlainCue}
 

@@ -1,11 +1,11 @@
 // This crate is the C interface: each function is exported under the name that include/libretto.h gives it, and carries the exact contract of what it wraps.
 // An enum does not pass to C: the definitions of specs/Plain.antt say which numbers pass in its place. `rt staticlib libretto` makes the archive that C and Rust link.
-// It depends on `find`, `fold`, `cue_fields`, `cue_book`, `cue_writer` and `resolver` for what it exports, and on `matching` for a finding.
+// It depends on `find`, `fold`, `cue_fields`, `cues`, `cue_book`, `cue_writer` and `resolver` for what it exports, and on `matching` for a finding.
 use cue_book::Answer;
-use cue_book::CueAnswer;
 use cue_book::Part;
 use cue_fields::Due;
 use cue_fields::FieldAnswer;
+use cues::CueAnswer;
 use matching::Finding;
 ghost use mathlib.Core.Path.{_≡_};
 ghost use mathlib.Core.List.{map};
@@ -14,8 +14,9 @@ ghost use lib.ListN.{length};
 ghost use Rattle.matching.specs.Received.{received};
 ghost use Rattle.find.specs.Find.{Answered};
 ghost use Rattle.fold.specs.Fold.{folded};
-ghost use Rattle.cue_book.specs.Format.{cueWith};
-ghost use Rattle.cue_book.specs.Places.{cueAt, bookAnswer, TitlePlaced};
+ghost use Rattle.cues.specs.Cue.{cueWith};
+ghost use Rattle.cues.specs.Places.{cueAt};
+ghost use Rattle.cue_book.specs.Places.{bookAnswer, TitlePlaced};
 ghost use Rattle.cue_writer.specs.Writing.{Written};
 ghost use Rattle.resolver.specs.Resolver.{Resolved};
 ghost use Rattle.libretto.specs.Plain.{fieldDue, fieldPassed, cuePassed};
@@ -127,7 +128,7 @@ pub extern "C" fn libretto_read_field(book: &[u8], place: usize, due: u32) -> Pl
 pub extern "C" fn libretto_read_cue(book: &[u8], place: usize) -> PlainCue
     ensures { λ r. ⌜ r ≡ cuePassed (cueAt (now (book .entry)) place) ⌝ }
 {
-    let answer = cue_book::read_cue(book, place);
+    let answer = cues::read_cue(book, place);
     match answer {
         CueAnswer::Cue {
             phrase,

@@ -10,7 +10,7 @@ use lib.Dec.{eqb, ltb}
 use borrow.Author.Tests.{eq-eqb, ne-eqb, eqb-true, eqb-false, lt-ltb, le-ltb, ltb-true, ltb-false}
 use Rattle.matching.proofs.CaseAnalysis.{by-test}
 use Rattle.matching.proofs.Refusals.{Passed, numbersTo, all-passed, met-most}
-use Rattle.cue_book.specs.Format.{Cue}
+use Rattle.cues.specs.Cue.{Cue}
 use Rattle.cue_book.specs.Reading.{refused, cues, readBook, refusalOf, numberOf, cuesIn}
 use Rattle.cue_book.proofs.Books.{refused-book, book-most, accepted-book}
 use Rattle.outcome.specs.Outcome.{chosen, memoryTests, memoryRefusal, Call, callRefusal, resolution, Outcome, refusing, withCues, withBook, outcome}

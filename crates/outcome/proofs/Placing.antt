@@ -14,7 +14,7 @@ use Rattle.matching.specs.Refusals.{firstMet}
 use Rattle.matching.proofs.CaseAnalysis.{both}
 use Rattle.matching.proofs.Received.{received-front}
 use Rattle.matching.proofs.Occurrences.{member, occurrences-are, occurrences-rise}
-use Rattle.cue_book.specs.Format.{Cue}
+use Rattle.cues.specs.Cue.{Cue}
 use Rattle.line_column.specs.declared.LineColumn.{LineColumn}
 use Rattle.line_column.specs.LineColumn.{lineColumn}
 use Rattle.outcome.specs.Outcome.{Numbered, cueOccurrences, isThere, placeOf, cueFault, Judged, judge, entriesOf, Resolution, resolution}

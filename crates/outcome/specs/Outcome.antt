@@ -7,7 +7,7 @@ use lib.ListN.{length, getD}
 use lib.Dec.{eqb, ltb}
 use Rattle.matching.specs.Occurrences.{occurrences, hasNth}
 use Rattle.matching.specs.Refusals.{Test, firstMet}
-use Rattle.cue_book.specs.Format.{Cue}
+use Rattle.cues.specs.Cue.{Cue}
 use Rattle.cue_book.specs.Reading.{Reading, refused, cues}
 use Rattle.line_column.specs.LineColumn.{lineColumn}
 

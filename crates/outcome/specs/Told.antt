@@ -5,7 +5,7 @@ use mathlib.Core.Bool.{true, false}
 use mathlib.Core.List.{List, [], _∷_, _++_, map}
 use lib.ListN.{length, getD, take, drop}
 use Rattle.matching.specs.Occurrences.{Occurs}
-use Rattle.cue_book.specs.Format.{Cue}
+use Rattle.cues.specs.Cue.{Cue}
 use Rattle.line_column.specs.LineColumn.{lineColumn}
 use Rattle.outcome.specs.Outcome.{Numbered, cueOccurrences, isThere, placeOf, cueFault, Judged, entriesOf}
 

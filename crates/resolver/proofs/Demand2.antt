@@ -14,8 +14,8 @@ use Rattle.matching.specs.Received.{received}
 use Rattle.matching.proofs.CaseAnalysis.{by-test}
 use Rattle.fold.specs.Fold.{capital, folded}
 use Rattle.fold.proofs.Fold.{folded-twice}
+use Rattle.cues.specs.Cue.{Cue}
 use Rattle.cue_book.specs.declared.Answer.{Answer}
-use Rattle.cue_book.specs.Format.{Cue}
 use Rattle.cue_book.specs.Reading.{cues, readBook, cuesIn}
 use Rattle.line_column.specs.LineColumn.{endsLine, lineColumn}
 use Rattle.line_column.proofs.Lines.{lines-same}

@@ -24,8 +24,9 @@ use Rattle.fjs.proofs.Place as places
 use Rattle.fjs.specs.Fjs.{fjs}
 use Rattle.fjs.specs.Nth.{nthOf, nthAnswer, Located}
 use Rattle.line_column.specs.LineColumn.{lineColumn}
-use Rattle.cue_book.specs.Format.{Cue}
-use Rattle.cue_book.specs.Reading.{cueSize, cues, readBook, cuesIn}
+use Rattle.cues.specs.Cue.{Cue}
+use Rattle.cues.specs.Reading.{cueSize}
+use Rattle.cue_book.specs.Reading.{cues, readBook, cuesIn}
 use Rattle.cue_book.proofs.Books.{Left, left-all, First, left-first}
 use Rattle.outcome.specs.Outcome.{Numbered, numberedFrom, chosen, isThere, placeOf, Judged, judge, entriesOf, resolution}
 use Rattle.outcome.proofs.Judging.{judge-on, judge-missing, judge-end}

@@ -1,7 +1,7 @@
 // The resolver (document 01, "Cue book, folding, lines"): from the cues of a book to place, line and column, as `outcome` defines it.
-// It depends on `cue_book` for the cues, on `fold`, on `fjs` for the occurrence that a cue names, and on `line_column` for the line rule.
+// It depends on `cues` and `cue_book` for the cues, on `fold`, on `fjs` for the occurrence that a cue names, and on `line_column` for the line rule.
 use cue_book::Answer;
-use cue_book::CueAnswer;
+use cues::CueAnswer;
 use fjs::Place;
 ghost use mathlib.Core.Path.{_≡_};
 ghost use mathlib.Core.List.{map};
@@ -92,7 +92,7 @@ fn resolve_cues(
     let mut at = 0;
     let mut place = 0;
     while index < cues {
-        let cue = cue_book::read_cue(book, place);
+        let cue = cues::read_cue(book, place);
         let CueAnswer::Cue {
             phrase: start,
             phrase_end: stop,

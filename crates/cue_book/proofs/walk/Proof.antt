@@ -7,9 +7,9 @@ use Prim.Native.Nat.{ℕ, _-_, _<_}
 use native.Mathlib.Omega.{arith}
 use mathlib.Core.List.{List}
 use lib.ListN.{length}
+use Rattle.cues.proofs.Cues.{CueAt, cue-at, cue-refused-some, title-ends}
 use Rattle.cue_book.specs.Reading.{refused, readBook, refusalOf, numberOf}
 use Rattle.cue_book.specs.Walking.{Walked}
-use Rattle.cue_book.proofs.Cues.{CueAt, cue-at, cue-refused-some, title-ends}
 use Rattle.cue_book.proofs.Books.{ReadSoFar, so-far-first, so-far-over, so-far-refused, so-far-next, so-far-end, Noted, noted-first, noted-other, noted-this, part-refused, part-cues}
 use Rattle.cue_book.proofs.walk.Statement.{statement}
 use Rattle.cue_book.proofs.walk.Tie as tie

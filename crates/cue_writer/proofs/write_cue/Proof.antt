@@ -5,7 +5,7 @@ use native.Mathlib.Omega.{arith}
 use lib.ListN.{length}
 use Rattle.pieces.specs.Pieces.{Laid, putAll}
 use Rattle.pieces.proofs.Laid.{laid-none, laid-then}
-use Rattle.cue_book.specs.Format.{cueWith}
+use Rattle.cues.specs.Cue.{cueWith}
 use Rattle.cue_writer.proofs.Writing.{Fitting, fitting, cue-length, formPieces, cuePieces, written-refused, laid-cue, written-whole}
 use Rattle.cue_writer.proofs.write_cue.Statement.{statement}
 use Rattle.cue_writer.proofs.write_cue.Tie as tie

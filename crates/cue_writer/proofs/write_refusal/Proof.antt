@@ -4,7 +4,7 @@ use native.Mathlib.Omega.{arith}
 use lib.ListN.{length}
 use borrow.Author.Tests.{eq-eqb, ne-eqb, lt-ltb, le-ltb}
 use Rattle.matching.specs.Refusals.{firstMet}
-use Rattle.cue_book.specs.Format.{cueWith, cueBytes}
+use Rattle.cues.specs.Cue.{cueWith, cueBytes}
 use Rattle.cue_writer.specs.Writing.{writeRefusal}
 use Rattle.cue_writer.proofs.Writing.{cue-length}
 use Rattle.cue_writer.proofs.write_refusal.Statement.{statement}

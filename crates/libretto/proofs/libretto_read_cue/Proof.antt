@@ -2,7 +2,7 @@
 use borrow.Author.Needs.{needs}
 use mathlib.Core.Path.{sym, ap, _∙_}
 use native.Mathlib.Omega.{arith}
-use Rattle.cue_book.proofs.Cues.{cue-at, title-ends}
+use Rattle.cues.proofs.Cues.{cue-at, title-ends}
 use Rattle.libretto.specs.Plain.{cuePassed}
 use Rattle.libretto.proofs.libretto_read_cue.Statement.{statement}
 use Rattle.libretto.proofs.libretto_read_cue.Tie as tie

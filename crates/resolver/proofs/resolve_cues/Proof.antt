@@ -12,10 +12,10 @@ use Rattle.matching.specs.Received.{received}
 use Rattle.matching.proofs.Received.{length-received}
 use Rattle.fold.specs.Fold.{folded}
 use Rattle.fjs.specs.Nth.{nthOf}
-use Rattle.cue_book.specs.Format.{Cue, cueWith}
-use Rattle.cue_book.specs.Reading.{readBook, cuesIn}
 use Rattle.cue_fields.specs.Field.{part}
-use Rattle.cue_book.proofs.Cues.{CueAt, cue-at, cue-refused-some, phrase-inside}
+use Rattle.cues.specs.Cue.{Cue, cueWith}
+use Rattle.cues.proofs.Cues.{CueAt, cue-at, cue-refused-some, phrase-inside}
+use Rattle.cue_book.specs.Reading.{readBook, cuesIn}
 use Rattle.outcome.specs.Outcome.{cueOccurrences, entriesOf}
 use Rattle.resolver.proofs.Walking.{found-there, found-not, Along, along-first, Next, along-cue, along-end, along-missing, along-next, along-put, placed}
 use Rattle.resolver.proofs.resolve_cues.Statement.{statement}

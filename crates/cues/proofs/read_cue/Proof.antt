@@ -1,4 +1,4 @@
--- `cue_book::read_cue` meets its contract: each field's answer is taken apart, and a refusal leaves with its number. Assumes nothing.
+-- `cues::read_cue` meets its contract: each field's answer is taken apart, and a refusal leaves with its number. Assumes nothing.
 use borrow.Author.Needs.{needs}
 use mathlib.Core.Path.{_≡_, refl, sym, _∙_}
 use Prim.Native.Nat.{ℕ, _≤_}
@@ -15,12 +15,12 @@ use Rattle.cue_fields.specs.Form.{formRefusal}
 use Rattle.cue_fields.proofs.Fields.{BodyAt, body-at, refused-some, body-inside}
 use Rattle.cue_fields.proofs.Form.{form-refused}
 use Rattle.cue_fields.proofs.Steps.{step-refusal}
-use Rattle.cue_book.specs.declared.CueAnswer.the-variants as answer
-use Rattle.cue_book.specs.Reading.{cueRefusal}
-use Rattle.cue_book.specs.Places.{CueRead}
-use Rattle.cue_book.proofs.Cues.{cue-refused, cue-read}
-use Rattle.cue_book.proofs.read_cue.Statement.{statement}
-use Rattle.cue_book.proofs.read_cue.Tie as tie
+use Rattle.cues.specs.declared.CueAnswer.the-variants as answer
+use Rattle.cues.specs.Reading.{cueRefusal}
+use Rattle.cues.specs.Places.{CueRead}
+use Rattle.cues.proofs.Cues.{cue-refused, cue-read}
+use Rattle.cues.proofs.read_cue.Statement.{statement}
+use Rattle.cues.proofs.read_cue.Tie as tie
 
 -- the phrase and the ordinal were read
 first-at : (k : tie.After-known-told) → let a = k .before .before .before .before .before .args in BodyAt (a .book .now) (a .place) Phrase (k .before .first .given .0 .0) (k .before .first .given .0 .1 .0)

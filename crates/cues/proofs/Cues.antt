@@ -14,12 +14,12 @@ use Rattle.cue_fields.specs.Form.{formSize, afterForm, formBodies}
 use Rattle.cue_fields.proofs.Fields.{Fielded, BodyAt, told-apart, firstOf}
 use Rattle.cue_fields.proofs.Form.{form-none, form-fine, form-most, form-inside, after-next}
 use Rattle.cue_fields.proofs.Steps.{step-refusal, step-size, step-bodies}
-use Rattle.cue_book.specs.declared.CueAnswer.{CueAnswer}
-use Rattle.cue_book.specs.declared.CueAnswer.the-variants as answer
-use Rattle.cue_book.proofs.CueAnswer as answers
-use Rattle.cue_book.specs.Format.{Cue, cueWith, cueForm, headForm, cueFrom}
-use Rattle.cue_book.specs.Reading.{cueRefusal, cueSize, cueOf}
-use Rattle.cue_book.specs.Places.{cueNumber, cueEnd, cuesMeant, titleStart, titleLength, cueAt, CueRead}
+use Rattle.cues.specs.declared.CueAnswer.{CueAnswer}
+use Rattle.cues.specs.declared.CueAnswer.the-variants as answer
+use Rattle.cues.proofs.CueAnswer as answers
+use Rattle.cues.specs.Cue.{Cue, cueWith, cueForm, headForm, cueFrom}
+use Rattle.cues.specs.Reading.{cueRefusal, cueSize, cueOf}
+use Rattle.cues.specs.Places.{cueNumber, cueEnd, cuesMeant, titleStart, titleLength, cueAt, CueRead}
 
 -- ---- a cue, from what is left of the book
 
@@ -28,10 +28,13 @@ module _ (rest : List ℕ) where
   unfolding cueRefusal
   cue-most = form-most cueForm rest
 
-  -- one that is read begins with a phrase, and takes no more bytes than there are
+  -- one that is read begins with a phrase, takes some bytes, and no more than there are
   pub cue-phrase : cueRefusal rest ≡ 0 → Fielded Phrase rest
   unfolding cueRefusal
   cue-phrase e = form-fine Phrase (Ordinal ∷ Title ∷ []) rest e .0
+
+  pub cue-some : cueRefusal rest ≡ 0 → length rest ≡ 0 → ⊥
+  cue-some e z = omega (arith, cue-phrase e .header)
 
   pub cue-inside : cueRefusal rest ≡ 0 → cueSize rest ≤ length rest
   unfolding cueRefusal

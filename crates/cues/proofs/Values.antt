@@ -15,8 +15,8 @@ use Rattle.cue_fields.specs.declared.Due.the-variants.{Phrase, Ordinal, Title}
 use Rattle.cue_fields.specs.Field.{twoBytes, numberIn, valueTests, fieldSize, fieldBody, afterField}
 use Rattle.cue_fields.specs.Form.{formBodies, formBytes, Sound, AllSound, Bytes}
 use Rattle.cue_fields.proofs.Form.{two-number, form-back, form-put, bytes-drop, body-bytes}
-use Rattle.cue_book.specs.Format.{Cue, cueWith, cueForm, cueBodies, cueFrom, cueBytes, Valid}
-use Rattle.cue_book.specs.Reading.{cueRefusal, cueOf, afterCue, CueReadsBack, CueWasWritten}
+use Rattle.cues.specs.Cue.{Cue, cueWith, cueForm, cueBodies, cueFrom, cueBytes, Valid}
+use Rattle.cues.specs.Reading.{cueRefusal, cueOf, afterCue, CueReadsBack, CueWasWritten}
 
 -- ---- a valid cue, by its bodies
 

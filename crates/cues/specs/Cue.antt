@@ -1,6 +1,6 @@
--- The cue book's format (document 01, "Cue book, folding, lines"): a cue as a value, its fields, its bytes, and a book's bytes.
+-- The format of a cue (document 01, "Cue book, folding, lines"): its value, its fields, its bytes, and what it may be.
 use Prim.Native.Nat.{ℕ, _≤_}
-use mathlib.Core.List.{List, [], _∷_, _++_}
+use mathlib.Core.List.{List, [], _∷_}
 use lib.ListN.{length, getD}
 use Rattle.cue_fields.specs.declared.Due.{Due}
 use Rattle.cue_fields.specs.declared.Due.the-variants.{Phrase, Ordinal, Title}
@@ -38,12 +38,6 @@ unfoldable pub cueBytes : Cue → List ℕ
 unfolding formBytes
 cueBytes c = formBytes cueForm (cueBodies c)
 
--- a book: its cues, one after another, and nothing after
-unfoldable pub bookBytes : List Cue → List ℕ
-unfolding cueBytes
-bookBytes [] = []
-bookBytes (c ∷ cs) = cueBytes c ++ bookBytes cs
-
 -- ---- what a cue may be
 
 -- a phrase of 1 to 1,024, an ordinal of 1 to 65,535, a title of 0 to 200
@@ -53,8 +47,3 @@ pub record Valid (c : Cue) : Type 0 where
   pub named : 1 ≤ c .ordinal
   pub small : c .ordinal ≤ 65535
   pub shown : length (c .title) ≤ 200
-
--- every cue of a list is valid
-unfoldable pub AllValid : List Cue → Type 0
-AllValid [] = Unit {0}
-AllValid (c ∷ cs) = Valid c × AllValid cs

@@ -1,0 +1,3 @@
+-- The laws of cues and of their values.
+pub mod Cues
+pub mod Values
