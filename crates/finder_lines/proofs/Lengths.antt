@@ -1,5 +1,5 @@
 -- How many bytes the fields and the lines have. Assumes nothing.
-use mathlib.Core.Path.{_≡_, ap}
+use mathlib.Core.Path.{_≡_, ap, _∙_}
 use Prim.Native.Nat.{ℕ, zero, suc, _+_, _*_, _≤_, _<_}
 use native.Mathlib.Omega.{arith}
 use native.Mathlib.Nat.{suc-mul}
@@ -23,9 +23,12 @@ pub line-length : (name : List ℕ) (total comparisons : ℕ) (list : List ℕ)
     → length (joined (lineOf name total comparisons list)) ≡ length name + length (field total) + length (field comparisons) + length (joined (fields total list)) + 1
 unfolding lineOf joined
 line-length name total comparisons list =
-    let places : List ℕ = joined (fields total list ++ ((10 ∷ []) ∷ [])) in
-    omega
-    (arith, length-append name (field total ++ (field comparisons ++ places)), length-append (field total) (field comparisons ++ places), length-append (field comparisons) places, ap length (joined-append (fields total list) ((10 ∷ []) ∷ [])), length-append (joined (fields total list)) (10 ∷ []))
+    let places : List ℕ = joined (fields total list) in
+    let ended : List ℕ = joined (fields total list ++ ((10 ∷ []) ∷ [])) in
+    let end : length ended ≡ length places + 1 = ap length (joined-append (fields total list) ((10 ∷ []) ∷ [])) ∙ length-append places (10 ∷ []) in
+    let second : List ℕ = field comparisons ++ ended in
+    let first : List ℕ = field total ++ second in
+    omega (arith, length-append name first, length-append (field total) second, length-append (field comparisons) ended, end)
 
 -- a refusal's line: `refused`, the number, and byte 10
 pub refused-length : (number : ℕ) → length (joined (refusedLine number)) ≡ 8 + length (field number)

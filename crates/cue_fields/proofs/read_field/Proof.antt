@@ -15,33 +15,45 @@ use Rattle.cue_fields.proofs.Fields.{at-refused, at-body}
 use Rattle.cue_fields.proofs.read_field.Statement.{statement}
 use Rattle.cue_fields.proofs.read_field.Tie as tie
 
+-- the places of this proof: where the call came in, where three bytes are left, and where the tag is the one due; and the call, from where the length is tested
+abbrev start : tie.Else2 → tie.Start
+start e = e .before .before .before .before
+
+abbrev headed-at : tie.After-is-tag → tie.Else2
+headed-at t = t .before .before
+
+abbrev tagged-at : tie.After-is-allowed → tie.Else3
+tagged-at t = t .before .before .before
+
+abbrev call : tie.After-is-allowed → tie.Start
+call t = start (headed-at (tagged-at t .before))
+
 -- three bytes are left
-headed : (e : tie.Else2) → let a = e .before .before .before .before .args in 3 ≤ length (drop (a .place) (a .book .now))
-headed e = let a = e .before .before .before .before .args in omega (arith, ap length (from-is (a .book .now) (a .place)), e .if2 .left)
+headed : (e : tie.Else2) → let a = start e .args in 3 ≤ length (drop (a .place) (a .book .now))
+headed e = let a = start e .args in omega (arith, ap length (from-is (a .book .now) (a .place)), e .if2 .left)
 
 -- the test of the tag
-tagged : (t : tie.After-is-tag) → let a = t .before .before .before .before .before .before .args in not (eqb (getD (drop (a .place) (a .book .now)) 0 0) (tagOf (a .due))) ≡ not (t .is-tag .result)
+tagged : (t : tie.After-is-tag) → let a = start (headed-at t) .args in not (eqb (getD (drop (a .place) (a .book .now)) 0 0) (tagOf (a .due))) ≡ not (t .is-tag .result)
 tagged t =
-    let a = t .before .before .before .before .before .before .args in
+    let a = start (headed-at t) .args in
     ap (λ (l : List ℕ). not (eqb (getD l 0 0) (tagOf (a .due)))) (sym (from-is (a .book .now) (a .place))) ∙ ap not (sym (t .is-tag .ensures))
 
 -- the length that the header gives, and its test
-sized : (t : tie.After-is-allowed) → let a = t .before .before .before .before .before .before .before .before .before .before .args in t .before .number-at .result ≡ fieldLength (drop (a .place) (a .book .now))
-sized t = let a = t .before .before .before .before .before .before .before .before .before .before .args in t .before .number-at .ensures .0 ∙ ap numberIn (from-twice (a .book .now) (a .place) 1)
+sized : (t : tie.After-is-allowed) → let a = call t .args in t .before .number-at .result ≡ fieldLength (drop (a .place) (a .book .now))
+sized t = let a = call t .args in t .before .number-at .ensures .0 ∙ ap numberIn (from-twice (a .book .now) (a .place) 1)
 
-lengthed : (t : tie.After-is-allowed) → let a = t .before .before .before .before .before .before .before .before .before .before .args in not (allowed (a .due) (fieldLength (drop (a .place) (a .book .now)))) ≡ not (t .is-allowed .result)
-lengthed t = let a = t .before .before .before .before .before .before .before .before .before .before .args in ap (λ (n : ℕ). not (allowed (a .due) n)) (sym (sized t)) ∙ ap not (sym (t .is-allowed .ensures))
+lengthed : (t : tie.After-is-allowed) → let a = call t .args in not (allowed (a .due) (fieldLength (drop (a .place) (a .book .now)))) ≡ not (t .is-allowed .result)
+lengthed t = let a = call t .args in ap (λ (n : ℕ). not (allowed (a .due) n)) (sym (sized t)) ∙ ap not (sym (t .is-allowed .ensures))
 
 -- what the tests from the body onward give
-bodied : (b : tie.After-body-refusal) → let e = b .before .before in let a = e .before .before .before .before .before .before .before .before .before .before .before .args in
-    fieldRefusal (a .due) (drop (a .place) (a .book .now)) ≡ b .body-refusal .result
+bodied : (b : tie.After-body-refusal) → let a = call (b .before .before .before) .args in fieldRefusal (a .due) (drop (a .place) (a .book .now)) ≡ b .body-refusal .result
 unfolding fieldRefusal firstMet
 bodied b =
     let e = b .before .before in
-    let t = e .before .before .before .before in
-    let a = e .before .before .before .before .before .before .before .before .before .before .before .args in
+    let t = tagged-at (e .before) in
+    let a = call (e .before) .args in
     let rest : List ℕ = drop (a .place) (a .book .now) in
-    rw (le-ltb (length rest) 3 (headed (t .before .before .before)), tagged (t .before) ∙ t .if3 .left, lengthed (e .before) ∙ e .if4 .left)
+    rw (le-ltb (length rest) 3 (headed (headed-at (t .before))), tagged (t .before) ∙ t .if3 .left, lengthed (e .before) ∙ e .if4 .left)
     (sym (b .body-refusal .ensures ∙ ap₂ (λ (n : ℕ) (l : List ℕ). firstMet (bodyTests (a .due) n l)) (sized (e .before)) (from-twice (a .book .now) (a .place) 3)))
 
 returns : tie.Need-returns
@@ -74,9 +86,10 @@ is-tag-requires c κs = search needs
 returns-3 : tie.Need-returns-3
 unfolding fieldRefusal firstMet
 returns-3 c =
-    let a = c .before .before .before .before .before .before .before .args in
+    let e = headed-at (c .before) in
+    let a = start e .args in
     at-refused (a .book .now) (a .place) (a .due)
-    (rw (le-ltb (length (drop (a .place) (a .book .now))) 3 (headed (c .before .before .before)), tagged (c .before) ∙ c .if3 .taken))
+    (rw (le-ltb (length (drop (a .place) (a .book .now))) 3 (headed e), tagged (c .before) ∙ c .if3 .taken))
     (λ z. omega arith)
 
 sub-number-at : tie.Need-sub-number-at
@@ -97,10 +110,10 @@ is-allowed-requires c κs = search needs
 returns-4 : tie.Need-returns-4
 unfolding fieldRefusal firstMet
 returns-4 c =
-    let t = c .before .before .before .before in
-    let a = t .before .before .before .before .before .before .before .args in
+    let t = tagged-at (c .before) in
+    let a = call (c .before) .args in
     at-refused (a .book .now) (a .place) (a .due)
-    (rw (le-ltb (length (drop (a .place) (a .book .now))) 3 (headed (t .before .before .before)), tagged (t .before) ∙ t .if3 .left, lengthed (c .before) ∙ c .if4 .taken))
+    (rw (le-ltb (length (drop (a .place) (a .book .now))) 3 (headed (headed-at (t .before))), tagged (t .before) ∙ t .if3 .left, lengthed (c .before) ∙ c .if4 .taken))
     (λ z. omega arith)
 
 sub-body-refusal : tie.Need-sub-body-refusal

@@ -5,24 +5,37 @@ use native.Mathlib.Omega.{arith}
 use lib.ListN.{length}
 use Rattle.pieces.specs.Pieces.{Laid, putAll}
 use Rattle.pieces.proofs.Laid.{laid-none, laid-then}
-use Rattle.cues.specs.Cue.{cueWith}
+use Rattle.cues.specs.Cue.{Cue, cueWith}
 use Rattle.cue_writer.proofs.Writing.{Fitting, fitting, cue-length, formPieces, cuePieces, written-refused, laid-cue, written-whole}
 use Rattle.cue_writer.proofs.write_cue.Statement.{statement}
 use Rattle.cue_writer.proofs.write_cue.Tie as tie
 
+-- the places of this proof: where the call came in, where the cue is not refused, and where its phrase and its ordinal are laid out; and the cue
+abbrev start : tie.Else1 → tie.Start
+start e = e .before .before .before .before .before
+
+abbrev phrase-laid : tie.After-put-field2 → tie.After-put-field
+phrase-laid o = o .before .before .before .before .before
+
+abbrev ordinal-laid : tie.After-put-field-arg3 → tie.After-put-field2
+ordinal-laid t = t .before .before .before
+
+abbrev accepted : tie.After-put-field-arg3 → tie.Else1
+accepted t = phrase-laid (ordinal-laid t) .before .before
+
+abbrev cue : tie.Else1 → Cue
+cue e = let a = start e .args in cueWith (a .phrase .now) (a .ordinal) (a .title .now)
+
 -- the cue is valid, and fits
-fits : (e : tie.Else1) → let a = e .before .before .before .before .before .args in Fitting (cueWith (a .phrase .now) (a .ordinal) (a .title .now)) (length (a .buffer .now))
+fits : (e : tie.Else1) → Fitting (cue e) (length (start e .args .buffer .now))
 fits e = fitting _ _ (sym (e .before .write-refusal .ensures) ∙ e .if1 .left)
 
 -- the three fields, one after another
-laid : (f : tie.After-put-field3) → let e = f .before .before .before .before .before .before .before .before .before .before .before in
-    let a = e .before .before .before .before .before .args in
-    Laid (f .put-field3 .last .0) (f .put-field3 .result) (putAll (a .buffer .now) 0 (cuePieces (cueWith (a .phrase .now) (a .ordinal) (a .title .now))))
+laid : (f : tie.After-put-field3) → let e = accepted (f .before) in Laid (f .put-field3 .last .0) (f .put-field3 .result) (putAll (start e .args .buffer .now) 0 (cuePieces (cue e)))
 unfolding formPieces
 laid f =
-    let o = f .before .before .before .before in
-    let p = o .before .before .before .before .before in
-    laid-then _ _ _ _ (p .put-field .ensures) (laid-then _ _ _ _ (o .put-field2 .ensures) (laid-then _ _ _ _ (f .put-field3 .ensures) (laid-none _ _)))
+    let o = ordinal-laid (f .before) in
+    laid-then _ _ _ _ (phrase-laid o .put-field .ensures) (laid-then _ _ _ _ (o .put-field2 .ensures) (laid-then _ _ _ _ (f .put-field3 .ensures) (laid-none _ _)))
 
 write-refusal-requires : tie.Need-write-refusal-requires
 write-refusal-requires c κs = search needs
@@ -46,16 +59,14 @@ put-field-requires-2 : tie.Need-put-field-requires-2
 put-field-requires-2 c κs = search needs
 
 put-field-requires-3 : tie.Need-put-field-requires-3
-put-field-requires-3 c κs = omega (arith, fits (c .before .before .before .before .before .before .before .before .before .before) .valid .shown)
+put-field-requires-3 c κs = omega (arith, fits (accepted c) .valid .shown)
 
 cast-length : tie.Need-cast-length
 cast-length c =
     let f = c .before .before in
-    let b = f .before .before .before .before .before .before .before .before .before .before .before in
-    let a = b .before .before .before .before .before .args in
-    let k = cueWith (a .phrase .now) (a .ordinal) (a .title .now) in
-    let e = fits b in
-    omega (arith, laid-cue k (a .buffer .now) (e .fits) (laid f) .0, cue-length k, e .valid .short, e .valid .shown)
+    let e = accepted (f .before) in
+    let fit = fits e in
+    omega (arith, laid-cue (cue e) (start e .args .buffer .now) (fit .fits) (laid f) .0, cue-length (cue e), fit .valid .short, fit .valid .shown)
 
 same-length : tie.Need-same-length
 same-length c = search needs
@@ -63,7 +74,7 @@ same-length c = search needs
 returns-2 : tie.Need-returns-2
 returns-2 c =
     let f = c .before .before in
-    let e = f .before .before .before .before .before .before .before .before .before .before .before in
+    let e = accepted (f .before) in
     written-whole (sym (e .before .write-refusal .ensures) ∙ e .if1 .left) (laid f)
 
 pub write-cue-spec : {M : Type 1} → statement M

@@ -22,28 +22,38 @@ use Rattle.cues.proofs.Cues.{cue-refused, cue-read}
 use Rattle.cues.proofs.read_cue.Statement.{statement}
 use Rattle.cues.proofs.read_cue.Tie as tie
 
--- the phrase and the ordinal were read
-first-at : (k : tie.After-known-told) → let a = k .before .before .before .before .before .args in BodyAt (a .book .now) (a .place) Phrase (k .before .first .given .0 .0) (k .before .first .given .0 .1 .0)
+-- the places of this proof: where the call came in, and where the phrase and the ordinal were read
+abbrev start : tie.After-known-told → tie.Start
+start k = k .before .before .before .before .before
+
+abbrev phrase-read : tie.After-known-told2 → tie.After-known-told
+phrase-read k = k .before .before .before .before
+
+abbrev ordinal-read : tie.After-known-told3 → tie.After-known-told2
+ordinal-read k = k .before .before .before .before
+
+-- the phrase and the ordinal stand there
+first-at : (k : tie.After-known-told) → let a = start k .args in BodyAt (a .book .now) (a .place) Phrase (k .before .first .given .0 .0) (k .before .first .given .0 .1 .0)
 first-at k = body-at (k .before .before .before .read-field .ensures) (k .before .first .given .1)
 
-second-at : (k : tie.After-known-told2) → let f = k .before .before .before .before in
-    BodyAt (f .before .before .before .before .before .args .book .now) (f .before .first .given .0 .1 .0) Ordinal (k .before .second .given .0 .0) (k .before .second .given .0 .1 .0)
+second-at : (k : tie.After-known-told2) → let f = phrase-read k in
+    BodyAt (start f .args .book .now) (f .before .first .given .0 .1 .0) Ordinal (k .before .second .given .0 .0) (k .before .second .given .0 .1 .0)
 second-at k = body-at (k .before .before .before .read-field2 .ensures) (k .before .second .given .1)
 
 -- the title lies in the book
-title-inside : (k : tie.After-known-told3) → let f = k .before .before .before .before .before .before .before .before in
-    (k .before .third .given .0 .0 ≤ k .before .third .given .0 .1 .0) × (k .before .third .given .0 .1 .0 ≤ length (f .before .before .before .before .before .args .book .now))
+title-inside : (k : tie.After-known-told3) → let f = phrase-read (ordinal-read k) in
+    (k .before .third .given .0 .0 ≤ k .before .third .given .0 .1 .0) × (k .before .third .given .0 .1 .0 ≤ length (start f .args .book .now))
 title-inside k = body-inside (body-at (k .before .before .before .read-field3 .ensures) (k .before .third .given .1))
 
 -- the cue's refusal is that of the fields after those read
-after-first : (k : tie.After-known-told) → let a = k .before .before .before .before .before .args in
+after-first : (k : tie.After-known-told) → let a = start k .args in
     cueRefusal (drop (a .place) (a .book .now)) ≡ formRefusal (Ordinal ∷ Title ∷ []) (drop (k .before .first .given .0 .1 .0) (a .book .now))
 unfolding cueRefusal
 after-first k = step-refusal (first-at k) (Ordinal ∷ Title ∷ [])
 
-after-second : (k : tie.After-known-told2) → let f = k .before .before .before .before in let a = f .before .before .before .before .before .args in
+after-second : (k : tie.After-known-told2) → let a = start (phrase-read k) .args in
     cueRefusal (drop (a .place) (a .book .now)) ≡ formRefusal (Title ∷ []) (drop (k .before .second .given .0 .1 .0) (a .book .now))
-after-second k = after-first (k .before .before .before .before) ∙ step-refusal (second-at k) (Title ∷ [])
+after-second k = after-first (phrase-read k) ∙ step-refusal (second-at k) (Title ∷ [])
 
 -- a field that was refused, after those read
 refused : {book : List ℕ} {at place : ℕ} {due : Due} {r : FieldAnswer} {number : ℕ} (dues : List Due) → cueRefusal (drop place book) ≡ formRefusal (due ∷ dues) (drop at book) → FieldRead book at due r
@@ -99,13 +109,13 @@ returns-3 : tie.Need-returns-3
 returns-3 c = let r = c .before .before .before in refused [] (after-second (r .before)) (r .read-field3 .ensures) (c .before .before .match3 .keys2) (c .field-number3 .ensures)
 
 sub-number-at : tie.Need-sub-number-at
-sub-number-at c = omega (arith, body-inside (second-at (c .before .before .before .before)) .0, title-inside c .0)
+sub-number-at c = omega (arith, body-inside (second-at (ordinal-read c)) .0, title-inside c .0)
 
 part-number-at-start : tie.Need-part-number-at-start
-part-number-at-start c = omega (arith, body-inside (second-at (c .before .before .before .before)) .0, title-inside c .0)
+part-number-at-start c = omega (arith, body-inside (second-at (ordinal-read c)) .0, title-inside c .0)
 
 part-number-at-end : tie.Need-part-number-at-end
-part-number-at-end c = omega (arith, body-inside (second-at (c .before .before .before .before)) .1, title-inside c .1)
+part-number-at-end c = omega (arith, body-inside (second-at (ordinal-read c)) .1, title-inside c .1)
 
 number-at-requires : tie.Need-number-at-requires
 number-at-requires c κs = search needs
@@ -116,8 +126,8 @@ cast-ordinal c = search needs
 returns-4 : tie.Need-returns-4
 returns-4 c =
     let k = c .before .before in
-    let s = k .before .before .before .before in
-    cue-read (first-at (s .before .before .before .before)) (second-at s) (body-at (k .before .before .before .read-field3 .ensures) (k .before .third .given .1)) (c .number-at .ensures .0)
+    let s = ordinal-read k in
+    cue-read (first-at (phrase-read s)) (second-at s) (body-at (k .before .before .before .read-field3 .ensures) (k .before .third .given .1)) (c .number-at .ensures .0)
 
 pub read-cue-spec : {M : Type 1} → statement M
 read-cue-spec =
