@@ -1,5 +1,5 @@
 -- A book read cue by cue: the cases of `readUpTo`, what an accepted book's first cue is, where its titles stand, and what is known at each cue of a walk over it. Assumes nothing.
-use mathlib.Core.Path.{_≡_, refl, sym, ap, ap₂, _∙_}
+use mathlib.Core.Path.{_≡_, refl, sym, ap, ap₂, subst, _∙_}
 use Prim.Native.Nat.{ℕ, zero, suc, _+_, _-_, _≤_, _<_}
 use native.Mathlib.Omega.{arith}
 use native.Mathlib.Numerals.{add-one}
@@ -131,6 +131,11 @@ refused-number (suc more) index rest {number} {at} e =
     later-refused (refused n i) e = e
     later-refused (cues cs) e = not-both (sym e)
 
+-- the same of a whole book
+book-number : (book : List ℕ) {number at : ℕ} → readBook book ≡ refused number at → (1 ≤ number) × (number ≤ 10)
+unfolding readBook
+book-number book e = refused-number 999 0 book e
+
 -- so a book is refused, with that number and index, or is its cues
 pub refused-book : (book : List ℕ) → (refusalOf (readBook book) ≡ 0 → ⊥) → readBook book ≡ refused (refusalOf (readBook book)) (numberOf (readBook book))
 refused-book book = by-reading (readBook book)
@@ -140,20 +145,18 @@ refused-book book = by-reading (readBook book)
     by-reading (cues cs) some = absurd (some refl)
 
 pub book-most : (book : List ℕ) → refusalOf (readBook book) ≤ 10
-unfolding readBook
 book-most book = by-reading (readBook book) refl
   where
     by-reading : (r : Reading) → readBook book ≡ r → refusalOf r ≤ 10
-    by-reading (refused number index) e = refused-number 999 0 book e .1
+    by-reading (refused number index) e = book-number book e .1
     by-reading (cues cs) e = omega arith
 
 pub accepted-book : (book : List ℕ) → refusalOf (readBook book) ≡ 0 → (readBook book ≡ cues (cuesIn (readBook book))) × (numberOf (readBook book) ≡ length (cuesIn (readBook book)))
-unfolding readBook
 accepted-book book z = by-reading (readBook book) refl
   where
     by-reading : (r : Reading) → readBook book ≡ r → (readBook book ≡ cues (cuesIn (readBook book))) × (numberOf (readBook book) ≡ length (cuesIn (readBook book)))
     by-reading (refused number index) e =
-        let some : 1 ≤ number = refused-number 999 0 book e .0 in
+        let some : 1 ≤ number = book-number book e .0 in
         let none : number ≡ 0 = sym (ap refusalOf e) ∙ z in
         absurd (omega arith)
     by-reading (cues cs) e = (e ∙ ap (λ (r : Reading). cues (cuesIn r)) (sym e), ap numberOf e ∙ ap (λ (r : Reading). length (cuesIn r)) (sym e))
@@ -188,6 +191,11 @@ there (suc k) more index rest (c ∷ cs) d e h =
     let t = there k (b .fewer) (suc index) (afterCue rest) cs d (b .then) (omega arith) in
     record { none = ap cueRefusal (left-next rest k) ∙ t .none; value = ap cueOf (left-next rest k) ∙ t .value }
 
+-- the same of a whole book
+book-there : (book : List ℕ) (k : ℕ) {cs : List Cue} (d : Cue) → readBook book ≡ cues cs → k < length cs → There book k (getD cs k d)
+unfolding readBook
+book-there book k {cs} d e h = there k 999 0 book cs d e h
+
 -- so it lies in the book
 there-inside : {rest : List ℕ} {k : ℕ} {c : Cue} → There rest k c → cuePlace rest k + cueSize (drop (cuePlace rest k) rest) ≤ length rest
 there-inside {rest} {k} t =
@@ -197,12 +205,12 @@ there-inside {rest} {k} t =
 -- `read_cue` at the place of an accepted book's cue gives that cue, whole, and ends where the next one begins
 pub cue-there : (book : List ℕ) (before : List Cue) (c : Cue) (later : List Cue) → readBook book ≡ cues (before ++ c ∷ later) → {r : CueAnswer}
     → CueRead book (cuePlace book (length before)) r → CueBack book (length before) c r
-unfolding readBook cueAt cuePlace
+unfolding cueAt cuePlace
 cue-there book before c later e {r} read =
     let k : ℕ = length before in
     let rest : List ℕ = drop (cuePlace book k) book in
     let short : k < length (before ++ c ∷ later) = omega (arith, length-append before (c ∷ later)) in
-    let t = there k 999 0 book (before ++ c ∷ later) c e short in
+    let t = book-there book k c e short in
     let on = eq-eqb (cueRefusal rest) 0 (t .none) in
     record {
       number = read .number ∙ t .none;
@@ -359,14 +367,16 @@ module _ {book : List ℕ} {index place phrase phrase-end ordinal title end : �
       let len : end - title ≡ titleLength (drop place book) = omega (arith, title-ends c .0) in
       record { is = rw (lt-ltb wanted (index + 1) (omega arith)) (ap₂ (λ (s l : ℕ). record { start = s; len = l }) start (len ∙ ap (λ (k : ℕ). titleLength (drop k book)) (sym here))) }
 
--- what is shown in the end
-pub part-refused : (book : List ℕ) (wanted : ℕ) {number index : ℕ} → readBook book ≡ refused number index → titlePart book wanted ≡ front
+-- what is shown in the end: by the definition, of a refused book, and of one that is accepted
+part-is : (book : List ℕ) (wanted : ℕ) → titlePart book wanted ≡ cond (ltb wanted (length (cuesIn (readBook book)))) (titleIn book wanted) front
 unfolding titlePart
-part-refused book wanted e = rw (e, le-ltb wanted 0 (omega arith))
+part-is book wanted = refl
+
+pub part-refused : (book : List ℕ) (wanted : ℕ) {number index : ℕ} → readBook book ≡ refused number index → titlePart book wanted ≡ front
+part-refused book wanted e = part-is book wanted ∙ rw (e, le-ltb wanted 0 (omega arith))
 
 pub part-cues : (book : List ℕ) (wanted : ℕ) {cs : List Cue} → readBook book ≡ cues cs → titlePart book wanted ≡ cond (ltb wanted (length cs)) (titleIn book wanted) front
-unfolding titlePart
-part-cues book wanted e = rw e
+part-cues book wanted e = part-is book wanted ∙ rw e
 
 -- ---- the title that is shown
 
@@ -382,16 +392,16 @@ title-past (c ∷ cs) zero h = absurd (omega arith)
 title-past (c ∷ cs) (suc k) h = title-past cs k (omega arith)
 
 pub title-shows : (book : List ℕ) (k : ℕ) → Shows book k (titlePart book k)
-unfolding titlePart readBook
 title-shows book k =
-    by-test (λ t. Shows book k (cond t (titleIn book k) front)) (ltb k (length (cuesIn (readBook book))))
+    let cs = cuesIn (readBook book) in
+    subst (Shows book k) (sym (part-is book k))
+    (by-test (λ t. Shows book k (cond t (titleIn book k) front)) (ltb k (length cs))
     (λ t.
-    let h = ltb-true k (length (cuesIn (readBook book))) t in
-    let e : readUpTo 999 0 book ≡ cues (cuesIn (readBook book)) = some-cues (readBook book) h in
+    let h = ltb-true k (length cs) t in
     let d : Cue = cueOf book in
-    let t = there k 999 0 book (cuesIn (readBook book)) d e h in
-    record { inside = omega (arith, there-inside t, title-last (drop (cuePlace book k) book)); holds = title-part book k ∙ title-there t ∙ title-of (cuesIn (readBook book)) k d h })
-    (λ t. record { inside = omega arith; holds = sym (title-past (cuesIn (readBook book)) k (ltb-false k (length (cuesIn (readBook book))) t)) })
+    let t = book-there book k d (some-cues (readBook book) h) h in
+    record { inside = omega (arith, there-inside t, title-last (drop (cuePlace book k) book)); holds = title-part book k ∙ title-there t ∙ title-of cs k d h })
+    (λ t. record { inside = omega arith; holds = sym (title-past cs k (ltb-false k (length cs) t)) }))
 
 -- the part of a title that was placed lies in the book
 pub placed-inside : {book : List ℕ} {k : ℕ} {r : Part} → TitlePlaced book k r → r .start + r .len ≤ length book
