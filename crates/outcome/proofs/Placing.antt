@@ -1,6 +1,6 @@
 -- Placing and writing: the occurrence that a cue names, the entries of each cue, and a text folded beforehand, for any fold that changes nothing the second time. Assumes nothing.
 use mathlib.Core.Path.{_≡_, refl, sym, ap, ap₂, _∙_}
-use Prim.Native.Nat.{ℕ, zero, suc, _+_, _-_, _*_, _≤_, _<_}
+use Prim.Native.Nat.{ℕ, suc, _+_, _-_, _*_, _≤_}
 use native.Mathlib.Omega.{arith}
 use mathlib.Core.Bool.{true, cond, not}
 use mathlib.Core.List.{List, [], _∷_, _++_, map}
@@ -17,7 +17,7 @@ use Rattle.matching.proofs.Occurrences.{member, occurrences-are, occurrences-ri
 use Rattle.cues.specs.Cue.{Cue}
 use Rattle.line_column.specs.declared.LineColumn.{LineColumn}
 use Rattle.line_column.specs.LineColumn.{lineColumn}
-use Rattle.outcome.specs.Outcome.{Numbered, cueOccurrences, isThere, placeOf, cueFault, Judged, judge, entriesOf, Resolution, resolution}
+use Rattle.outcome.specs.Outcome.{Numbered, cueOccurrences, isThere, placeOf, cueFault, Judged, judge, entriesOf, resolution}
 use Rattle.outcome.specs.Told.{Idempotent, KeepsLines, AllThere, placesOf, CameOut, Named}
 
 -- ---- the occurrence that a cue names

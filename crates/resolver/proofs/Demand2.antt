@@ -19,8 +19,8 @@ use Rattle.cue_book.specs.declared.Answer.{Answer}
 use Rattle.cue_book.specs.Reading.{cues, readBook, cuesIn}
 use Rattle.line_column.specs.LineColumn.{endsLine, lineColumn}
 use Rattle.line_column.proofs.Lines.{lines-same}
-use Rattle.outcome.specs.Outcome.{Numbered, numberedFrom, chosen, Judged, judge, entriesOf, Resolution, resolution, Outcome}
-use Rattle.outcome.specs.Told.{cuesOf, placesOf, Found, Faulted}
+use Rattle.outcome.specs.Outcome.{Numbered, chosen, Judged, judge, entriesOf, resolution, Outcome}
+use Rattle.outcome.specs.Told.{cuesOf, placesOf}
 use Rattle.outcome.proofs.Judging.{numbered-cues, length-numbered, numbered-at, missing, all-found, one-faulted}
 use Rattle.outcome.proofs.Placing.{came-out}
 use Rattle.outcome.proofs.Placing as placing

@@ -6,9 +6,8 @@ use native.Mathlib.Omega.{arith}
 use native.Mathlib.Numerals.{add-one}
 use mathlib.Core.Bool.{true, false}
 use mathlib.Core.List.{List, [], _∷_, _++_, append-assoc}
-use lib.ListN.{length, getD, drop, set, length-append, length-drop}
+use lib.ListN.{length, getD, drop, set, length-append}
 use types.Run.{OneOf}
-use lib.Dec.{eqb}
 use borrow.Author.Tests.{eq-eqb}
 use denote.Enum.Declared as declared
 use Rattle.matching.specs.Occurrences.{occurrences, hasNth}

@@ -1,9 +1,8 @@
 -- `line_column::count_back` meets its contract. The loop's invariant: the bytes from `start` up to `end` are no line ends, and those before `start` are still to be looked at. Assumes nothing.
 use mathlib.Core.Path.{_≡_, refl, sym, ap, _∙_}
 use mathlib.Core.Logic.{⊎-elim}
-use Prim.Native.Nat.{ℕ, suc, _+_, _-_, _≤_, _<_}
+use Prim.Native.Nat.{suc, _-_, _≤_}
 use native.Mathlib.Omega.{arith}
-use lib.ListN.{length}
 use Rattle.line_column.specs.LineColumn.{lineStart}
 use Rattle.line_column.proofs.Lines.{ends-at, ends-not}
 use Rattle.line_column.proofs.count_back.Statement.{statement}

@@ -1,10 +1,9 @@
 -- `line_column::count_block` meets its contract. The loop's invariant: the line ends from `start` up to i are counted, and a byte holds their number. Assumes nothing.
 use mathlib.Core.Path.{_≡_, sym, ap, _∙_}
 use mathlib.Core.Logic.{⊎-elim}
-use Prim.Native.Nat.{ℕ, _+_, _-_, _≤_, _<_}
+use Prim.Native.Nat.{_+_, _-_, _≤_}
 use native.Mathlib.Omega.{arith}
 use native.Mathlib.Numerals.{add-one}
-use lib.ListN.{length}
 use Rattle.line_column.specs.LineColumn.{endsBefore}
 use Rattle.line_column.proofs.Lines.{ends-at, ends-not}
 use Rattle.line_column.proofs.count_block.Statement.{statement}

@@ -3,7 +3,6 @@ use borrow.Author.Needs.{needs}
 use mathlib.Core.Path.{_≡_, refl}
 use Prim.Native.Nat.{_+_, _-_, _≤_}
 use native.Mathlib.Omega.{arith}
-use lib.ListN.{length}
 use Rattle.line_column.specs.LineColumn.{endsBefore}
 use Rattle.line_column.proofs.Lines.{ends-few}
 use Rattle.line_column.proofs.count_breaks.Statement.{statement}

@@ -4,7 +4,7 @@ use mathlib.Core.Path.{_≡_, ap, ap₂, _∙_}
 use mathlib.Core.List.{List}
 use Prim.Native.Nat.{ℕ, _+_}
 use native.Mathlib.Omega.{arith}
-use lib.ListN.{length, set}
+use lib.ListN.{set}
 use Rattle.line_column.specs.declared.LineColumn.{LineColumn}
 use Rattle.line_column.specs.LineColumn.{lineColumn}
 use Rattle.line_column.proofs.Lines.{line-small, column-small}

@@ -5,10 +5,9 @@ use mathlib.Core.Path.{_≡_, refl, ap, ap₂, _∙_}
 use mathlib.Core.List.{List, map}
 use Prim.Native.Nat.{ℕ, _-_, _≤_}
 use native.Mathlib.Omega.{arith}
-use lib.ListN.{length, take, drop, length-drop, length-map}
+use lib.ListN.{length, drop, length-drop, length-map}
 use lib.Seq.{length-take-le}
 use Rattle.matching.specs.Occurrences.{occurrences}
-use Rattle.matching.specs.Received.{received}
 use Rattle.matching.proofs.Received.{length-received}
 use Rattle.fold.specs.Fold.{folded}
 use Rattle.fjs.specs.Nth.{nthOf}
