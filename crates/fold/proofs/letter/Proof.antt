@@ -2,7 +2,6 @@
 use borrow.Author.Needs.{needs}
 use native.Mathlib.Omega.{arith}
 use Rattle.fold.proofs.Table.{table-at}
-use borrow.Author.Needs.{needs}
 use Rattle.fold.proofs.letter.Statement.{statement}
 use Rattle.fold.proofs.letter.Tie as tie
 

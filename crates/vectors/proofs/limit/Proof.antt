@@ -5,7 +5,6 @@ use Prim.Native.Nat.{ℕ}
 use native.Mathlib.Omega.{arith}
 use lib.ListN.{replicate, length-replicate}
 use lib.Seq.{length-take-le}
-use borrow.Author.Needs.{needs}
 use Rattle.vectors.proofs.limit.Statement.{statement}
 use Rattle.vectors.proofs.limit.Tie as tie
 
