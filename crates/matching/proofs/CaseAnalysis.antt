@@ -1,7 +1,6 @@
 -- Case analysis on a test that computes. Assumes nothing.
 use mathlib.Core.Path.{_≡_, refl, sym, ap}
 use Prim.Native.Nat.{ℕ, _≤_}
-use native.Mathlib.Omega.{arith}
 use mathlib.Core.Bool.{Bool, true, false, cond, _&&_, _||_, false≢true}
 use mathlib.Core.List.{List}
 use lib.ListN.{getD}
@@ -25,10 +24,6 @@ either false b e f = e
 pub cond-most : (t : Bool) {x y n : ℕ} → x ≤ n → y ≤ n → cond t x y ≤ n
 cond-most true h k = h
 cond-most false h k = k
-
--- a number that is 0 and is not
-pub clash : {A : Type 0} {x : ℕ} (n : ℕ) → 1 ≤ n → x ≡ n → x ≡ 0 → A
-clash n h e z = absurd (omega arith)
 
 -- the same letter at the same place
 pub at-same : (l : List ℕ) {i j : ℕ} → i ≡ j → getD l i 0 ≡ getD l j 0
