@@ -8,7 +8,7 @@ use native.Mathlib.Omega.{arith}
 use mathlib.Core.List.{List}
 use lib.ListN.{length, getD}
 use Rattle.matching.specs.Letters.{reach}
-use Rattle.matching.specs.Machine.{at, firstToLast}
+use Rattle.matching.specs.Machine.{State, at, firstToLast}
 use Rattle.matching.proofs.Letters.{reach-nothing, Upward, up-none, up-first, up-next, up-stops, up-ends}
 use Rattle.matching.proofs.Find.{found-refused}
 use Rattle.matching.proofs.Progress.{Accepted, accepted, Progress, begins, hit-up, miss-up, total-small, compared-small, same-list, past, keeps}
@@ -69,9 +69,22 @@ first-differs {P} {T} {list₀} {s} {q} {total} {compared} {list} p inside zero 
     let none : reach P T s q ≡ 0 = ap (reach P T s) zero ∙ reach-nothing P T s some (omega arith) differs in
     miss-up p inside (rw (kmp-next P s (reach P T s q) 0 (s + 1) q (omega (arith, kmpEntry-le P (reach P T s q))) (omega arith) (omega arith))) (sym none) some (omega arith)
 
+-- the window lies in the text
+within : (i : tie.In-loop Inv-loop2 μ-loop2 Inv-loop μ-loop) → let l = i .before in l .loop .s + length (P l) ≤ length (T l)
+within i = omega (arith, i .loop-test .taken)
+
 -- as many letters are equal as were reached
 reached : (d : tie.Left-loop2 Inv-loop2 μ-loop2 Inv-loop μ-loop) → let i = d .before in let l = outer i in i .loop2 .k ≡ reach (P l) (T l) (l .loop .s) (l .loop .q)
-reached d = let u = d .before .loop2 .inv in ⊎-elim (λ w. up-ends u (omega arith) (w .left)) (λ w. up-stops u (omega arith) (w .0 .taken) (w .4 .taken)) (d .loop2-test .came)
+reached d =
+    let i = d .before in
+    let u = i .loop2 .inv in
+    let h = within (i .before .before) in
+    ⊎-elim (λ w. up-ends u h (w .left)) (λ w. up-stops u h (w .0 .taken) (w .4 .taken)) (d .loop2-test .came)
+
+-- the progress of the values where the two cases join
+joined : {P T list₀ list list′ : List ℕ} {x : State} {total total′ compared : ℕ} → list′ ≡ list → total′ ≡ total → Progress kmp P T list₀ x total compared list
+    → Progress kmp P T list₀ x total′ compared list′
+joined l t p = rw (l, t) p
 
 -- one window done, whether it reports or not
 stepped : (j : tie.Joined5 Inv-loop2 μ-loop2 Inv-loop μ-loop)
@@ -83,11 +96,12 @@ stepped j =
     let l = outer i in
     let p = l .loop .inv .0 in
     let u = i .loop2 .inv in
+    let h = within (i .before .before) in
     let is = reached (j .before .before) in
     let v = ap (λ (r : ℕ). firstToLast (P l) (T l) (l .loop .s) (l .loop .q) (kmpMove (P l) (l .loop .s) r)) (sym is) in
     ⊎-elim
-    (λ w. rw (w .1, w .2, w .3) (miss-up p (omega arith) v is (w .0 .taken) (omega (arith, u .from))))
-    (λ w. rw (w .5, w .6, w .7, w .2 .ensures) (hit-up p (omega arith) v is (omega (arith, w .0 .left, u .upto)) (omega (arith, u .from))))
+    (λ w. joined (w .1) (w .2) (miss-up p h v is (w .0 .taken) (omega (arith, u .from, w .3))))
+    (λ w. joined (w .5 ∙ w .2 .ensures) (w .6) (hit-up p h v is (omega (arith, w .0 .left, u .upto)) (omega (arith, u .from, w .7))))
     (j .if5 .came)
 
 -- the move: b[j] for the j that was reached
@@ -114,53 +128,54 @@ loop-holds c =
     (begins (allowed (t .before .before) .limits) (sound (a .pattern .now) (a .text .now)), (omega arith, filled t .entries))
 
 add-loop : tie.Need-add-loop Inv-loop2 μ-loop2 Inv-loop μ-loop
-add-loop c = omega (arith, c .loop .inv .0 .short, c .loop .inv .0 .small)
+add-loop c = let v = c .loop .inv in omega (arith, v .0 .short, v .0 .small, v .1 .0)
 
 shared-slice-read-if3 : tie.Need-shared-slice-read-if3 Inv-loop2 μ-loop2 Inv-loop μ-loop
 shared-slice-read-if3 c = omega (arith, c .before .before .before .loop .inv .0 .sound .some)
 
 shared-slice-read-if3-2 : tie.Need-shared-slice-read-if3-2 Inv-loop2 μ-loop2 Inv-loop μ-loop
-shared-slice-read-if3-2 c = omega (arith, c .before .before .before .before .loop .inv .0 .sound .some)
+shared-slice-read-if3-2 c = let i = c .before .before .before in omega (arith, within i, i .before .loop .inv .0 .sound .some)
 
 add-compared : tie.Need-add-compared Inv-loop2 μ-loop2 Inv-loop μ-loop
 add-compared c = omega (arith, compared-small (c .before .before .before .before .before .loop .inv .0))
 
 add-s : tie.Need-add-s Inv-loop2 μ-loop2 Inv-loop μ-loop
-add-s c = omega (arith, c .before .before .before .before .before .loop .inv .0 .small)
+add-s c = let i = c .before .before .before .before in omega (arith, within i, i .before .loop .inv .0 .small)
 
 loop-less : tie.Need-loop-less Inv-loop2 μ-loop2 Inv-loop μ-loop
-loop-less c = omega arith
+loop-less c = omega (arith, within (c .before .before .before .before))
 
 loop-again : tie.Need-loop-again Inv-loop2 μ-loop2 Inv-loop μ-loop
 loop-again c =
-    let l = c .before .before .before .before .before in
-    (first-differs (l .loop .inv .0) (omega arith) (c .before .before .before .if2 .taken) (c .if3 .taken), (omega (arith, l .loop .inv .0 .sound .some), l .loop .inv .1 .1))
+    let i = c .before .before .before .before in
+    let v = i .before .loop .inv in
+    (first-differs (v .0) (within i) (c .before .before .before .if2 .taken) (c .if3 .taken), (omega (arith, within i), v .1 .1))
 
 loop2-holds : tie.Need-loop2-holds Inv-loop2 μ-loop2 Inv-loop μ-loop
 loop2-holds c =
     let p = c .before .before .loop .inv .0 in
     ⊎-elim
-    (λ w. up-first (p .sound .some) (omega (arith, p .sound .some)) (w .0 .taken) (w .4) (w .3 .left))
+    (λ w. up-first (p .sound .some) (omega (arith, within (c .before), p .sound .some)) (w .0 .taken) (w .4) (w .3 .left))
     (λ w. up-none (w .1) (omega (arith, p .carried .part)))
     (c .if2 .came)
 
 shared-slice-read-if4 : tie.Need-shared-slice-read-if4 Inv-loop2 μ-loop2 Inv-loop μ-loop
-shared-slice-read-if4 c = omega arith
+shared-slice-read-if4 c = omega (arith, c .before .loop2-test .taken)
 
 add-if4 : tie.Need-add-if4 Inv-loop2 μ-loop2 Inv-loop μ-loop
-add-if4 c = let p = c .before .before .before .before .before .before .loop .inv .0 in omega (arith, p .short, p .small)
+add-if4 c = let i = c .before .before in let p = outer (i .before) .loop .inv .0 in omega (arith, i .loop2-test .taken, within (i .before .before .before), p .small)
 
 shared-slice-read-if4-2 : tie.Need-shared-slice-read-if4-2 Inv-loop2 μ-loop2 Inv-loop μ-loop
-shared-slice-read-if4-2 c = omega arith
+shared-slice-read-if4-2 c = omega (arith, c .before .before .before .loop2-test .taken, within (c .before .before .before .before .before .before))
 
 add-k : tie.Need-add-k Inv-loop2 μ-loop2 Inv-loop μ-loop
-add-k c = omega arith
+add-k c = let i = c .before .before .before .before in omega (arith, i .loop2-test .taken, outer (i .before) .loop .inv .0 .short)
 
 loop2-less : tie.Need-loop2-less Inv-loop2 μ-loop2 Inv-loop μ-loop
-loop2-less c = omega arith
+loop2-less c = omega (arith, c .before .before .before .before .loop2-test .taken)
 
 loop2-again : tie.Need-loop2-again Inv-loop2 μ-loop2 Inv-loop μ-loop
-loop2-again c = up-next (c .before .before .before .before .before .loop2 .inv) (omega arith) (omega arith) (omega arith) (c .if4 .left)
+loop2-again c = let i = c .before .before .before .before in up-next (i .before .loop2 .inv) (within (i .before .before .before)) (omega (arith, i .loop2-test .taken)) (omega arith) (c .if4 .left)
 
 sub-compared : tie.Need-sub-compared Inv-loop2 μ-loop2 Inv-loop μ-loop
 sub-compared c = omega (arith, c .before .before .loop2 .inv .from)
@@ -172,7 +187,7 @@ add-compared-3 : tie.Need-add-compared-3 Inv-loop2 μ-loop2 Inv-loop μ-loop
 add-compared-3 c = let i = c .before .before .before in let p = outer i .loop .inv .0 in omega (arith, compared-small p, i .loop2 .inv .upto, p .short)
 
 cast-store : tie.Need-cast-store Inv-loop2 μ-loop2 Inv-loop μ-loop
-cast-store c = omega (arith, outer (c .before .before .before .before) .loop .inv .0 .small)
+cast-store c = let i = c .before .before .before .before in omega (arith, within (i .before .before), outer i .loop .inv .0 .small)
 
 store-requires : tie.Need-store-requires Inv-loop2 μ-loop2 Inv-loop μ-loop
 store-requires c κs = tt
@@ -181,7 +196,7 @@ add-total : tie.Need-add-total Inv-loop2 μ-loop2 Inv-loop μ-loop
 add-total c = omega (arith, total-small (outer (c .before .before .before .before .before .before .before) .loop .inv .0))
 
 mul-b : tie.Need-mul-b Inv-loop2 μ-loop2 Inv-loop μ-loop
-mul-b c = omega (arith, c .before .before .before .loop2 .inv .upto)
+mul-b c = let i = c .before .before .before in omega (arith, i .loop2 .inv .upto, outer i .loop .inv .0 .short)
 
 slice-read-b : tie.Need-slice-read-b Inv-loop2 μ-loop2 Inv-loop μ-loop
 slice-read-b c = let i = c .before .before .before .before in omega (arith, i .loop2 .inv .upto, outer i .loop .inv .1 .1 .room)
@@ -196,30 +211,30 @@ sub-s : tie.Need-sub-s Inv-loop2 μ-loop2 Inv-loop μ-loop
 sub-s c = omega (arith, moved c .most)
 
 add-s-3 : tie.Need-add-s-3 Inv-loop2 μ-loop2 Inv-loop μ-loop
-add-s-3 c = let i = c .before .before .before .before in let p = outer i .loop .inv .0 in omega (arith, p .short, p .small, i .loop2 .inv .upto)
+add-s-3 c = let i = c .before .before .before .before in let p = outer i .loop .inv .0 in omega (arith, p .short, p .small, i .loop2 .inv .upto, within (i .before .before))
 
 sub-q : tie.Need-sub-q Inv-loop2 μ-loop2 Inv-loop μ-loop
-sub-q c = omega arith
+sub-q c = omega (arith, c .if6 .taken)
 
 loop-less-2 : tie.Need-loop-less-2 Inv-loop2 μ-loop2 Inv-loop μ-loop
-loop-less-2 c = omega (arith, moved (c .before) .most)
+loop-less-2 c = omega (arith, moved (c .before) .most, within (c .before .before .before .before .before .before .before))
 
 loop-again-2 : tie.Need-loop-again-2 Inv-loop2 μ-loop2 Inv-loop μ-loop
 loop-again-2 c =
     let i = c .before .before .before .before .before in
     let l = outer i in
     let m = moved (c .before) in
-    (kmp-goes (l .loop .s) (i .loop2 .k) (stepped (c .before .before)) m refl, (omega (arith, m .most, i .loop2 .inv .upto), l .loop .inv .1 .1))
+    (kmp-goes (l .loop .s) (i .loop2 .k) (stepped (c .before .before)) m refl, (omega (arith, m .most, i .loop2 .inv .upto, within (i .before .before)), l .loop .inv .1 .1))
 
 loop-less-3 : tie.Need-loop-less-3 Inv-loop2 μ-loop2 Inv-loop μ-loop
-loop-less-3 c = omega (arith, moved (c .before) .most)
+loop-less-3 c = omega (arith, moved (c .before) .most, within (c .before .before .before .before .before .before .before))
 
 loop-again-3 : tie.Need-loop-again-3 Inv-loop2 μ-loop2 Inv-loop μ-loop
 loop-again-3 c =
     let i = c .before .before .before .before .before in
     let l = outer i in
     let m = moved (c .before) in
-    (kmp-goes (l .loop .s) (i .loop2 .k) (stepped (c .before .before)) m (omega (arith, c .if6 .left)), (omega (arith, m .most, i .loop2 .inv .upto), l .loop .inv .1 .1))
+    (kmp-goes (l .loop .s) (i .loop2 .k) (stepped (c .before .before)) m (omega (arith, c .if6 .left)), (omega (arith, m .most, i .loop2 .inv .upto, within (i .before .before)), l .loop .inv .1 .1))
 
 cast-found : tie.Need-cast-found Inv-loop2 μ-loop2 Inv-loop μ-loop
 cast-found c = omega (arith, total-small (c .before .loop .inv .0))
