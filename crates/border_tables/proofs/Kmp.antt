@@ -9,9 +9,9 @@ use lib.ListN.{length, getD}
 use lib.Dec.{eqb, ltb}
 use borrow.Author.Tests.{eqb-true, eqb-false, ltb-true, ltb-false}
 use Rattle.matching.proofs.CaseAnalysis.{by-test, at-same}
-use Rattle.tables.specs.Tables.{largest}
+use Rattle.tables.specs.Tables.{largest, Entries}
 use Rattle.border_tables.specs.Kmp.{strong, kmpEntry, kmpMade}
-use Rattle.tables.proofs.Tables.{largest-le, largest-none, largest-holds, largest-is, Entries, Filled, filled, Reads}
+use Rattle.tables.proofs.Tables.{largest-le, largest-none, largest-holds, largest-is, Filled, filled, Reads}
 use Rattle.border_tables.proofs.Borders.{Border, border-zero, border-trans, border-nested, border-more, border-less, border-letter, strong-border, strong-differs, border-strong}
 
 -- ---- the rule letter by letter, for b = b[q + 1]

@@ -6,7 +6,8 @@ use lib.ListN.{length, drop}
 use Rattle.matching.specs.Received.{received}
 use Rattle.matching.proofs.Find.{Within}
 use Rattle.matching.proofs.Progress.{Accepted}
-use Rattle.tables.proofs.Tables.{Entries, first-entries, second-entries, both-received}
+use Rattle.tables.specs.Tables.{Entries}
+use Rattle.tables.proofs.Tables.{first-entries, second-entries, both-received}
 use Rattle.letter_tables.specs.BadCharacter.{sundayEntry}
 use Rattle.border_tables.specs.Kmp.{kmpEntry}
 use Rattle.fjs.specs.Fjs.{fjs}

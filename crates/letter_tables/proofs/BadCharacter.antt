@@ -10,9 +10,9 @@ use lib.Dec.{eqb}
 use borrow.Author.Tests.{eq-eqb, eqb-true}
 use Rattle.matching.proofs.CaseAnalysis.{at-same}
 use Rattle.matching.proofs.Occurrences.{Stands}
-use Rattle.tables.specs.Tables.{largest}
+use Rattle.tables.specs.Tables.{largest, Entries}
 use Rattle.letter_tables.specs.BadCharacter.{lastIn, sundayEntry, horspoolEntry, sundayMade, horspoolMade}
-use Rattle.tables.proofs.Tables.{largest-le, largest-none, largest-holds, Entries, Filled, filled, Reads}
+use Rattle.tables.proofs.Tables.{largest-le, largest-none, largest-holds, Filled, filled, Reads}
 
 pub lastIn-le : (P : List ℕ) (n c : ℕ) → lastIn P n c ≤ n
 unfolding lastIn

@@ -11,7 +11,7 @@ use Rattle.matching.proofs.CaseAnalysis.{by-test}
 use Rattle.matching.proofs.Occurrences.{Stands}
 use Rattle.letter_tables.specs.BadCharacter.{lastIn, horspoolEntry}
 use Rattle.letter_tables.specs.DoubleWindow.{lastOf, endEntry, doubleEntry}
-use Rattle.tables.proofs.Tables.{Entries}
+use Rattle.tables.specs.Tables.{Entries}
 use Rattle.letter_tables.proofs.BadCharacter.{lastIn-le, lastIn-more, bad-character}
 
 -- ---- the rules in one formula

@@ -12,7 +12,7 @@ use borrow.Author.Tests.{eqb-true, eqb-false, ltb-true, ltb-false, le-ltb, lt-lt
 use Rattle.matching.specs.Received.{received}
 use Rattle.matching.proofs.CaseAnalysis.{by-test, at-same}
 use Rattle.matching.proofs.Received.{received-front}
-use Rattle.tables.specs.Tables.{largest, tabulate, made}
+use Rattle.tables.specs.Tables.{largest, tabulate, made, Entries}
 
 -- ---- the largest that passes a test
 
@@ -193,11 +193,7 @@ module _ (most n : ℕ) (rule : ℕ → ℕ) (table : List ℕ) where
   pub made-by : n ≤ length table → most ≤ 65535 → made most (tabulate n rule) table ≡ tabulate n rule ++ drop n table
   made-by h k = made-is most (tabulate n rule) table (omega (arith, length-tabulate n rule)) k ∙ ap (λ i. tabulate n rule ++ drop i table) (length-tabulate n rule)
 
--- ---- what an engine knows of a table that stands in its scratch from place a on: each entry by its rule
-
-pub record Entries (a n : ℕ) (rule : ℕ → ℕ) (table : List ℕ) : Type 0 where
-  pub room : a + n ≤ length table
-  pub entry : (i : ℕ) → i < n → {p : ℕ} → p ≡ a + i → getD table p 0 ≡ rule i
+-- ---- what an engine knows of a table that stands in its scratch (`Entries`)
 
 -- a table at the front
 pub front-entries : (n : ℕ) (rule : ℕ → ℕ) (rest : List ℕ) {table : List ℕ} → table ≡ tabulate n rule ++ rest → Entries 0 n rule table

@@ -1,8 +1,9 @@
 -- What tables of any rule have in common: entries by a rule, and what a maker leaves of a lent table.
-use Prim.Native.Nat.{ℕ, zero, suc}
+use mathlib.Core.Path.{_≡_}
+use Prim.Native.Nat.{ℕ, zero, suc, _+_, _≤_, _<_}
 use mathlib.Core.Bool.{Bool, cond, _||_}
 use mathlib.Core.List.{List, [], _∷_}
-use lib.ListN.{length}
+use lib.ListN.{length, getD}
 use lib.Dec.{ltb}
 use Rattle.matching.specs.Received.{received}
 
@@ -20,3 +21,8 @@ tabulate (suc n) rule = rule 0 ∷ tabulate n (λ i. rule (suc i))
 -- or where the pattern is so long that an entry could be above 65,535; `most` is the largest value that the rule gives for a pattern of its length
 unfoldable pub made : ℕ → List ℕ → List ℕ → List ℕ
 made most entries table = cond (ltb (length table) (length entries) || ltb 65535 most) table (received table entries)
+
+-- a table that stands in a scratch from place a on: n entries, each by its rule
+pub record Entries (a n : ℕ) (rule : ℕ → ℕ) (table : List ℕ) : Type 0 where
+  pub room : a + n ≤ length table
+  pub entry : (i : ℕ) → i < n → {p : ℕ} → p ≡ a + i → getD table p 0 ≡ rule i

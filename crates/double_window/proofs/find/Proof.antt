@@ -12,7 +12,8 @@ use Rattle.matching.proofs.CaseAnalysis.{at-same}
 use Rattle.matching.proofs.Letters.{Downward, down-compared}
 use Rattle.matching.proofs.Find.{found-refused}
 use Rattle.matching.proofs.Progress.{Accepted, accepted, Progress, begins, missed, hit-down, miss-down, total-small, compared-small, same-list, past, keeps}
-use Rattle.tables.proofs.Tables.{Entries, Reads, first-entries, second-entries, made-part, both-received}
+use Rattle.tables.specs.Tables.{Entries}
+use Rattle.tables.proofs.Tables.{Reads, first-entries, second-entries, made-part, both-received}
 use Rattle.letter_tables.specs.BadCharacter.{horspoolEntry, horspoolTable}
 use Rattle.letter_tables.specs.DoubleWindow.{doubleEntry, doubleTable}
 use Rattle.letter_tables.specs.Moves.{horspoolMove}

@@ -10,7 +10,8 @@ use Rattle.matching.specs.Machine.{at}
 use Rattle.matching.proofs.Letters.{Downward, down-compared}
 use Rattle.matching.proofs.Find.{found-refused}
 use Rattle.matching.proofs.Progress.{Accepted, accepted, Progress, begins, hit-down, miss-down, total-small, compared-small, same-list, past, keeps}
-use Rattle.tables.proofs.Tables.{Entries, Filled, Reads}
+use Rattle.tables.specs.Tables.{Entries}
+use Rattle.tables.proofs.Tables.{Filled, Reads}
 use Rattle.letter_tables.specs.BadCharacter.{horspoolEntry}
 use Rattle.letter_tables.specs.Moves.{horspoolMove}
 use Rattle.letter_tables.proofs.BadCharacter.{horspool-filled, horspool-reads}

@@ -12,7 +12,8 @@ use Rattle.matching.specs.Machine.{State, at, firstToLast}
 use Rattle.matching.proofs.Letters.{reach-nothing, Upward, up-none, up-first, up-next, up-stops, up-ends}
 use Rattle.matching.proofs.Find.{found-refused}
 use Rattle.matching.proofs.Progress.{Accepted, accepted, Progress, begins, hit-up, miss-up, total-small, compared-small, same-list, past, keeps}
-use Rattle.tables.proofs.Tables.{Entries, Filled, Reads}
+use Rattle.tables.specs.Tables.{Entries}
+use Rattle.tables.proofs.Tables.{Filled, Reads}
 use Rattle.border_tables.specs.Kmp.{kmpEntry}
 use Rattle.border_tables.specs.Moves.{kmpMove}
 use Rattle.border_tables.proofs.Kmp.{kmpEntry-le, kmp-filled, kmp-reads}

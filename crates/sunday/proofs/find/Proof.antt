@@ -12,7 +12,8 @@ use Rattle.matching.specs.Machine.{at}
 use Rattle.matching.proofs.Letters.{Upward, up-none, up-next, up-stops, up-ends}
 use Rattle.matching.proofs.Find.{found-refused}
 use Rattle.matching.proofs.Progress.{Accepted, accepted, Progress, Over, begins, hit-up, miss-up, total-small, compared-small, same-list, past, keeps}
-use Rattle.tables.proofs.Tables.{Entries, Filled, Reads}
+use Rattle.tables.specs.Tables.{Entries}
+use Rattle.tables.proofs.Tables.{Filled, Reads}
 use Rattle.letter_tables.specs.BadCharacter.{sundayEntry}
 use Rattle.letter_tables.specs.Moves.{sundayMove}
 use Rattle.letter_tables.proofs.BadCharacter.{sunday-filled, sunday-reads}
