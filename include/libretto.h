@@ -35,9 +35,9 @@ enum libretto_method {
 #define LIBRETTO_SCRATCH_HORSPOOL(m) ((size_t)256)
 #define LIBRETTO_SCRATCH_SUNDAY(m) ((size_t)256)
 #define LIBRETTO_SCRATCH_FJS(m) ((size_t)(m) + 257)
-#define LIBRETTO_SCRATCH_DOUBLE_WINDOW(m) ((size_t)65792)
-/* As many as any call needs. */
-#define LIBRETTO_SCRATCH_MAX ((size_t)65792)
+#define LIBRETTO_SCRATCH_DOUBLE_WINDOW(m) ((size_t)256)
+/* As many as any find needs: FJS with the longest phrase. */
+#define LIBRETTO_SCRATCH_MAX LIBRETTO_SCRATCH_FJS(LIBRETTO_PHRASE_MAX)
 
 /* The limits of a cue book: the most cues, the longest title in bytes, the largest ordinal, and the bytes of the longest cue. */
 #define LIBRETTO_CUES_MAX 999

@@ -174,9 +174,8 @@ fn others(results: &Results) -> String {
     format!(
         "## Ratio to the reference and to memmem\n\n\
          Texts of 32,768 letters, and the geometric mean over the classes. The reference is the safe-Rust implementation in `rust/reference`, whole \
-         finds with its tables, which it makes by brute force; those of KMP and of the double window it keeps from the call before, and the clock \
-         starts after that. glibc's `memmem`, called again one letter after each place, is what a C program would use without the library; it counts no \
-         comparisons.\n\n{}",
+         finds with its tables, which it makes by brute force; KMP's table is kept from the call before, and the clock starts after that. glibc's \
+         `memmem`, called again one letter after each place, is what a C program would use without the library; it counts no comparisons.\n\n{}",
         table.markdown()
     )
 }

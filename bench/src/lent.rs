@@ -1,10 +1,10 @@
 //! The memory that every call of a measurement is lent, the library's and its twins' alike.
 
 use crate::random::Random;
-use libretto::{ResolverMemory, CUES_MAX, CUE_ENTRIES, PHRASE_BUFFER, RESOLVER_SCRATCH, TEXT_MAX};
+use libretto::{Method, ResolverMemory, CUES_MAX, CUE_ENTRIES, PHRASE_BUFFER, PHRASE_MAX, RESOLVER_SCRATCH, TEXT_MAX};
 
-/// The scratch entries that are enough for every engine.
-const SCRATCH: usize = 65_792;
+/// The scratch entries that are enough for every engine and for the resolver: FJS needs the most.
+const SCRATCH: usize = Method::Fjs.scratch_entries(PHRASE_MAX);
 
 /// The list's entries, as many as the finder program lends.
 pub const LIST: usize = 4096;

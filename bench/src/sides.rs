@@ -67,7 +67,7 @@ pub fn memmem<'a>(case: &'a Case<'a>) -> Side<'a> {
     })
 }
 
-/// The reference's sides, one for each phrase: it keeps the tables of the last phrase it was asked for, and so makes them before the clock starts.
+/// The reference's sides, one for each phrase: it keeps the KMP table of the last phrase it was asked for, and so makes it before the clock starts.
 fn references<'a>(method: Method, case: &'a Case<'a>) -> Vec<Side<'a>> {
     let side = |phrase: &'a Vec<u8>| {
         Side::new(move |lent: &mut Lent| {

@@ -14,7 +14,7 @@ use Rattle.matching.proofs.Machine.{carries-none, Moves, Right, Sound, right-do
 use Rattle.letter_tables.specs.DoubleWindow.{lastOf, endEntry, doubleEntry}
 use Rattle.letter_tables.specs.Moves.{horspoolMove}
 use Rattle.letter_tables.proofs.BadCharacter.{lastIn-letter}
-use Rattle.letter_tables.proofs.DoubleWindow.{endEntry-zero, doubleEntry-zero, endEntry-stands, doubleEntry-stands, end-safe, double-safe, endEntry-le, doubleEntry-le}
+use Rattle.letter_tables.proofs.DoubleWindow.{read, read-last, endEntry-read, doubleEntry-read, endEntry-zero, doubleEntry-zero, endEntry-stands, doubleEntry-stands, end-safe, double-safe, endEntry-le, doubleEntry-le}
 use Rattle.letter_tables.proofs.Moves.{horspool-moves}
 use Rattle.double_window.specs.DoubleWindow.{under, beyond, jump, window}
 
@@ -28,6 +28,25 @@ module _ (P T : List ℕ) (s : ℕ) where
   pub jump-end : length T ≤ s + (2 * length P - 1) → jump P T s ≡ endEntry P (under P T s)
   unfolding jump
   jump-end h = rw (le-ltb (s + (2 * length P - 1)) (length T) h)
+
+  pub jump-past : 1 ≤ length P → length T ≤ s + (2 * length P - 1) → jump P T s ≡ read P (under P T s)
+  jump-past some h = jump-end h ∙ endEntry-read P (under P T s) some
+
+  -- the jump as code reads it: by u alone where the pattern has u, and where v lies past the text; else by v
+  pub jump-in : 1 ≤ length P → (read P (under P T s) ≡ length P → ⊥) → jump P T s ≡ read P (under P T s)
+  jump-in some n =
+      by-test (λ _. jump P T s ≡ read P (under P T s)) (ltb (s + (2 * length P - 1)) (length T))
+      (λ e.
+      let h : s + (2 * length P - 1) < length T = ltb-true (s + (2 * length P - 1)) (length T) e in
+      jump-near h ∙ doubleEntry-read P (under P T s) (beyond P T s) some ∙ rw (ne-eqb (read P (under P T s)) (length P) n))
+      (λ e. jump-past some (ltb-false (s + (2 * length P - 1)) (length T) e))
+
+  pub jump-out : 1 ≤ length P → s + (2 * length P - 1) < length T → read P (under P T s) ≡ length P → jump P T s ≡ length P + read P (beyond P T s)
+  jump-out some h e = jump-near h ∙ doubleEntry-read P (under P T s) (beyond P T s) some ∙ rw (eq-eqb (read P (under P T s)) (length P) e)
+
+  -- 0 where u is the last letter
+  pub jump-zero : 1 ≤ length P → getD P (length P - 1) 0 ≡ under P T s → jump P T s ≡ 0
+  jump-zero some e = let z = read-last P (under P T s) e in jump-in some (λ m. omega arith) ∙ z
 
   -- a jump ends within the text
   pub jump-fits : s + length P ≤ length T → s + jump P T s ≤ length T

@@ -1,14 +1,14 @@
--- The double window's steps (document 01, "Double window"; source document 004). u is the text letter under the window's end, v the one m places on.
+-- The double window's steps (document 01, "Double window"; document 02 (v); source document 004). u is the text letter under the window's end, v the one m places on.
 use Prim.Native.Nat.{ℕ, _+_, _-_, _*_}
 use mathlib.Core.Bool.{cond, false}
-use mathlib.Core.List.{List, _++_}
+use mathlib.Core.List.{List}
 use lib.ListN.{length, getD}
 use lib.Dec.{eqb, ltb}
 use Rattle.matching.specs.Letters.{equalDown}
 use Rattle.matching.specs.Machine.{Steps, at, lastToFirst}
 use Rattle.matching.specs.Find.{Engine}
 use Rattle.letter_tables.specs.BadCharacter.{horspoolTable}
-use Rattle.letter_tables.specs.DoubleWindow.{endEntry, doubleEntry, doubleTable}
+use Rattle.letter_tables.specs.DoubleWindow.{endEntry, doubleEntry}
 use Rattle.letter_tables.specs.Moves.{horspoolMove}
 
 -- u, the text letter under the end of the window at s
@@ -33,6 +33,6 @@ window P T s q =
     (lastToFirst P T s (length P - 1) (horspoolMove P T s))
     (record { compared = 0; stands = false; next = at (s + jump P T s) 0 })
 
--- 256 Horspool entries, then 65,536
+-- 256 entries, Horspool's
 abbrev pub doubleWindow : Engine
-doubleWindow = record { entries = λ m. 65792; tables = λ P. horspoolTable P ++ doubleTable P; steps = window }
+doubleWindow = record { entries = λ m. 256; tables = horspoolTable; steps = window }

@@ -1,4 +1,4 @@
--- All that is printed for an input fits the output of `outputSize` bytes: five lines of at most 24,600 bytes each, or one refusal. Assumes nothing.
+-- All that is printed for an input fits the output of `outputSize` bytes: six lines of at most 24,600 bytes each, or one refusal. Assumes nothing.
 use mathlib.Core.Path.{_≡_, ap}
 use Prim.Native.Nat.{ℕ, _*_, _≤_, _<_}
 use native.Mathlib.Omega.{arith}
@@ -21,6 +21,7 @@ use Rattle.kmp.proofs.Sound as kmp
 use Rattle.horspool.proofs.Sound as horspool
 use Rattle.sunday.proofs.Sound as sunday
 use Rattle.fjs.proofs.Sound as fjs
+use Rattle.double_window.proofs.Sound as double
 use Rattle.pieces.specs.Pieces.{joined}
 use Rattle.pieces.proofs.Laid.{joined-append}
 use Rattle.finder_lines.specs.Lines.{fields, refusedLine}
@@ -75,7 +76,7 @@ all-fit P T w =
     omega (
       arith,
       lines-fit P T (w .short) (w .small) rows
-          ((omega arith, naive.sound P T (w .some)), ((omega arith, kmp.sound P T (w .some)), ((omega arith, horspool.sound P T (w .some)), ((omega arith, sunday.sound P T (w .some)), ((omega arith, fjs.sound P T (w .some)), tt))))),
+          ((omega arith, naive.sound P T (w .some)), ((omega arith, kmp.sound P T (w .some)), ((omega arith, horspool.sound P T (w .some)), ((omega arith, sunday.sound P T (w .some)), ((omega arith, fjs.sound P T (w .some)), ((omega arith, double.sound P T (w .some)), tt)))))),
     )
 
 answered-fits : (P T : List ℕ) → length (joined (answered P T)) ≤ outputSize

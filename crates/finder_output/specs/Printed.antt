@@ -12,6 +12,7 @@ use Rattle.kmp.specs.Kmp.{kmp}
 use Rattle.horspool.specs.Horspool.{horspool}
 use Rattle.sunday.specs.Sunday.{sunday}
 use Rattle.fjs.specs.Fjs.{fjs}
+use Rattle.double_window.specs.DoubleWindow.{doubleWindow}
 use Rattle.pieces.specs.Pieces.{joined}
 use Rattle.finder_lines.specs.Lines.{lineOf, refusedLine}
 
@@ -30,7 +31,7 @@ pub record Row : Type 0 where
   pub name : List ℕ
   pub engine : Engine
 
--- the engines in the order of their lines, methods 0 to 4; the names are `naive`, `kmp`, `horspool`, `sunday` and `fjs` in ASCII
+-- the engines in the order of their lines, `double` last (document 02 (v)); the names are `naive`, `kmp`, `horspool`, `sunday`, `fjs` and `double` in ASCII
 unfoldable pub rows : List Row
 rows =
     record { name = 110 ∷ 97 ∷ 105 ∷ 118 ∷ 101 ∷ []; engine = naive }
@@ -38,6 +39,7 @@ rows =
     ∷ record { name = 104 ∷ 111 ∷ 114 ∷ 115 ∷ 112 ∷ 111 ∷ 111 ∷ 108 ∷ []; engine = horspool }
     ∷ record { name = 115 ∷ 117 ∷ 110 ∷ 100 ∷ 97 ∷ 121 ∷ []; engine = sunday }
     ∷ record { name = 102 ∷ 106 ∷ 115 ∷ []; engine = fjs }
+    ∷ record { name = 100 ∷ 111 ∷ 117 ∷ 98 ∷ 108 ∷ 101 ∷ []; engine = doubleWindow }
     ∷ []
 
 -- the row of that number, the first being 0

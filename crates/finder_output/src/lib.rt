@@ -23,7 +23,7 @@ fn phrase_end(input: &[u8]) -> usize
     i
 }
 
-// Puts the line of one engine from `at` on: where the next line goes. The caller has met no refusal, and 1,281 scratch entries are enough for methods 0 to 4.
+// Puts the line of one engine from `at` on: where the next line goes. The caller has met no refusal, and 1,281 scratch entries are enough for methods 0 to 5.
 fn put_engine(
     method: u32,
     name: &[u8],
@@ -32,7 +32,7 @@ fn put_engine(
     output: &mut [u8],
     at: usize,
 ) -> usize
-    requires { ⌜ method ≤ 4 ⌝ }
+    requires { ⌜ method ≤ 5 ⌝ }
     requires { ⌜ refusal (length (now phrase)) (length (now text)) 0 0 ≡ 0 ⌝ }
     ensures { λ r. ⌜ Laid (now (output .exit)) r (putAll (now (output .entry)) at (engineLine (record { name = now (name .entry); engine = engineOf method }) (now (phrase .entry)) (now (text .entry)))) ⌝ }
 {
@@ -53,7 +53,8 @@ fn put_row(row: u32, phrase: &[u8], text: &[u8], output: &mut [u8], at: usize) -
         1 => put_engine(1, b"kmp", phrase, text, output, at),
         2 => put_engine(2, b"horspool", phrase, text, output, at),
         3 => put_engine(3, b"sunday", phrase, text, output, at),
-        _ => put_engine(4, b"fjs", phrase, text, output, at),
+        4 => put_engine(4, b"fjs", phrase, text, output, at),
+        _ => put_engine(5, b"double", phrase, text, output, at),
     }
 }
 
@@ -64,7 +65,7 @@ fn put_rows(phrase: &[u8], text: &[u8], output: &mut [u8]) -> usize
 {
     let mut at = 0;
     let mut row = 0;
-    while row < 5 {
+    while row < 6 {
         at = put_row(row, phrase, text, output, at);
         row += 1;
     }

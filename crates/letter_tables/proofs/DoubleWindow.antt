@@ -1,18 +1,17 @@
 -- Laws of the double window's entries, from their rule alone. Assumes nothing.
-use mathlib.Core.Path.{_≡_, refl, sym, ap, ap₂, _∙_}
-use Prim.Native.Nat.{ℕ, suc, _+_, _-_, _*_, _/_, _%_, _≤_, _<_}
+use mathlib.Core.Path.{_≡_, refl, sym, ap, _∙_}
+use Prim.Native.Nat.{ℕ, suc, _+_, _-_, _*_, _≤_, _<_}
 use native.Mathlib.Omega.{arith}
 use mathlib.Core.List.{List}
 use mathlib.Core.Bool.{cond}
 use lib.ListN.{length, getD}
 use lib.Dec.{eqb, ltb}
-use borrow.Author.Tests.{eqb-true, ne-eqb, eq-eqb, ltb-true, ltb-false}
+use borrow.Author.Tests.{eqb-true, eqb-false, ne-eqb, eq-eqb, ltb-true, ltb-false}
 use Rattle.matching.proofs.CaseAnalysis.{by-test}
 use Rattle.matching.proofs.Occurrences.{Stands}
 use Rattle.letter_tables.specs.BadCharacter.{lastIn, horspoolEntry}
 use Rattle.letter_tables.specs.DoubleWindow.{lastOf, endEntry, doubleEntry}
-use Rattle.tables.specs.Tables.{Entries}
-use Rattle.letter_tables.proofs.BadCharacter.{lastIn-le, lastIn-more, bad-character}
+use Rattle.letter_tables.proofs.BadCharacter.{lastIn-le, lastIn-more, bad-character, horspoolEntry-le}
 
 -- ---- the rules in one formula
 
@@ -42,19 +41,40 @@ doubleEntry-out P u v h =
     rw (eq-eqb (lastOf P u) 0 h)
     (by-test (λ t. cond t (2 * length P) (2 * length P - lastOf P v) ≡ 2 * length P - lastOf P v) (eqb (lastOf P v) 0) (λ e. omega (arith, eqb-true (lastOf P v) 0 e)) (λ _. refl)))
 
--- by u alone, as an engine finds it from Horspool's entries: 0 where u is the last letter, else Horspool's entry of u
-last-letter : (P : List ℕ) (u : ℕ) → 1 ≤ length P → lastIn P (length P) u ≡ cond (eqb (getD P (length P - 1) 0) u) (length P) (lastIn P (length P - 1) u)
-last-letter P u h =
+-- ---- the rules as an engine reads them off Horspool's entries
+
+last-letter : (P : List ℕ) (c : ℕ) → 1 ≤ length P → lastOf P c ≡ cond (eqb (getD P (length P - 1) 0) c) (length P) (lastIn P (length P - 1) c)
+last-letter P c h =
     let e : suc (length P - 1) ≡ length P = omega arith in
-    ap (λ (n : ℕ). lastIn P n u) (sym e) ∙ lastIn-more P (length P - 1) u ∙ ap (λ (n : ℕ). cond (eqb (getD P (length P - 1) 0) u) n (lastIn P (length P - 1) u)) e
+    ap (λ (n : ℕ). lastIn P n c) (sym e) ∙ lastIn-more P (length P - 1) c ∙ ap (λ (n : ℕ). cond (eqb (getD P (length P - 1) 0) c) n (lastIn P (length P - 1) c)) e
 
-pub endEntry-last : (P : List ℕ) (u : ℕ) → 1 ≤ length P → getD P (length P - 1) 0 ≡ u → endEntry P u ≡ 0
-endEntry-last P u h e = let l : lastIn P (length P) u ≡ length P = last-letter P u h ∙ rw (eq-eqb (getD P (length P - 1) 0) u e) in omega (arith, endEntry-is P u)
+-- what it reads by one letter: 0 where that is the last letter, else its entry
+abbrev pub read : List ℕ → ℕ → ℕ
+read P c = cond (eqb (getD P (length P - 1) 0) c) 0 (horspoolEntry P c)
 
-pub endEntry-other : (P : List ℕ) (u : ℕ) → 1 ≤ length P → (getD P (length P - 1) 0 ≡ u → ⊥) → endEntry P u ≡ horspoolEntry P u
-endEntry-other P u h e =
-    let l : lastIn P (length P) u ≡ lastIn P (length P - 1) u = last-letter P u h ∙ rw (ne-eqb (getD P (length P - 1) 0) u e) in
-    omega (arith, endEntry-is P u)
+pub read-last : (P : List ℕ) (c : ℕ) → getD P (length P - 1) 0 ≡ c → read P c ≡ 0
+read-last P c e = rw (eq-eqb (getD P (length P - 1) 0) c e)
+
+pub read-other : (P : List ℕ) (c : ℕ) → (getD P (length P - 1) 0 ≡ c → ⊥) → read P c ≡ horspoolEntry P c
+read-other P c n = rw (ne-eqb (getD P (length P - 1) 0) c n)
+
+pub read-le : (P : List ℕ) (c : ℕ) → read P c ≤ length P
+read-le P c = by-test (λ t. cond t 0 (horspoolEntry P c) ≤ length P) (eqb (getD P (length P - 1) 0) c) (λ _. omega arith) (λ _. horspoolEntry-le P c)
+
+-- the rule by one letter is just that
+pub endEntry-read : (P : List ℕ) (c : ℕ) → 1 ≤ length P → endEntry P c ≡ read P c
+endEntry-read P c h =
+    endEntry-is P c ∙ ap (λ (n : ℕ). length P - n) (last-letter P c h)
+    ∙ by-test (λ t. length P - cond t (length P) (lastIn P (length P - 1) c) ≡ cond t 0 (horspoolEntry P c)) (eqb (getD P (length P - 1) 0) c) (λ _. omega arith) (λ _. refl)
+
+-- the rule by u and v is what it reads by u, unless that is m, which says that the pattern lacks u; then it is m more than what it reads by v
+pub doubleEntry-read : (P : List ℕ) (u v : ℕ) → 1 ≤ length P → doubleEntry P u v ≡ cond (eqb (read P u) (length P)) (length P + read P v) (read P u)
+doubleEntry-read P u v h =
+    let by-u : endEntry P u ≡ read P u = endEntry-read P u h in
+    let by-v : endEntry P v ≡ read P v = endEntry-read P v h in
+    by-test (λ t. doubleEntry P u v ≡ cond t (length P + read P v) (read P u)) (eqb (read P u) (length P))
+    (λ e. omega (arith, doubleEntry-out P u v (omega (arith, endEntry-is P u, eqb-true (read P u) (length P) e)), endEntry-is P v, lastIn-le P (length P) v))
+    (λ e. omega (arith, doubleEntry-in P u v (omega (arith, endEntry-is P u, eqb-false (read P u) (length P) e)), endEntry-is P u))
 
 pub endEntry-le : (P : List ℕ) (u : ℕ) → endEntry P u ≤ length P
 endEntry-le P u = omega (arith, endEntry-is P u)
@@ -113,11 +133,3 @@ module _ (P T : List ℕ) (s : ℕ) (some : 1 ≤ length P) (st : Stands P T s) 
 
   pub doubleEntry-stands : (v : ℕ) → doubleEntry P (getD T (s + (length P - 1)) 0) v ≡ 0
   doubleEntry-stands v = omega (arith, doubleEntry-in P (getD T (s + (length P - 1)) 0) v (omega (arith, last-there)), last-there)
-
--- ---- the entries as they stand in a table, that of (u, v) at 256 u + v
-
-pub doubleEntry-at : (P : List ℕ) (u v : ℕ) → v < 256 → doubleEntry P ((256 * u + v) / 256) ((256 * u + v) % 256) ≡ doubleEntry P u v
-doubleEntry-at P u v h = ap₂ (doubleEntry P) (omega arith) (omega arith)
-
-pub double-reads : (P : List ℕ) {table : List ℕ} (a u v : ℕ) → Entries a 65536 (λ i. doubleEntry P (i / 256) (i % 256)) table → u < 256 → v < 256 → getD table (a + 256 * u + v) 0 ≡ doubleEntry P u v
-double-reads P a u v t h l = t .entry (256 * u + v) (omega arith) (omega arith) ∙ doubleEntry-at P u v l

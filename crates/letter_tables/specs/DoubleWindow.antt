@@ -1,10 +1,9 @@
 -- The double window's entries (document 01, "Double window"; source document 004): u is the text letter under the window's end, v the one m places on.
-use Prim.Native.Nat.{ℕ, _-_, _*_, _/_, _%_}
+use Prim.Native.Nat.{ℕ, _-_, _*_}
 use mathlib.Core.Bool.{cond}
 use mathlib.Core.List.{List}
 use lib.ListN.{length}
 use lib.Dec.{eqb}
-use Rattle.tables.specs.Tables.{tabulate, made}
 use Rattle.letter_tables.specs.BadCharacter.{lastIn}
 
 -- where P has the letter c at its last position j = q(c) + 1, it is in P, and it is P's last letter where j is m
@@ -24,11 +23,3 @@ doubleEntry P u v =
     (cond (eqb (lastOf P u) 0)
     (cond (eqb (lastOf P v) 0) (2 * length P) (2 * length P - lastOf P v))
     (length P - lastOf P u))
-
--- 65,536 entries, that of (u, v) at 256 times u plus v
-abbrev pub doubleTable : List ℕ → List ℕ
-doubleTable P = tabulate 65536 (λ i. doubleEntry P (i / 256) (i % 256))
-
--- what the maker leaves of a lent table
-abbrev pub doubleMade : List ℕ → List ℕ → List ℕ
-doubleMade P table = made (2 * length P) (doubleTable P) table

@@ -1,4 +1,4 @@
-// The tables by the last positions of letters: three makers, each writing only its own entries into a lent table of 16-bit numbers.
+// The tables by the last positions of letters, Sunday's and Horspool's: two makers, each writing only its own entries into a lent table of 16-bit numbers.
 // It depends on `tables`, and on `matching` for what an occurrence and a move are. Engines know a table by its rule alone (specs/), and prove their skips from
 // the laws that stand beside it (proofs/Moves.antt). A table too short, or a pattern so long that an entry could pass 16 bits, leaves everything as before.
 ghost use mathlib.Core.Path.{_≡_};
@@ -6,7 +6,6 @@ ghost use mathlib.Core.List.{_++_};
 ghost use Prim.Native.Nat.{_≤_};
 ghost use lib.ListN.{length, drop};
 ghost use Rattle.letter_tables.specs.BadCharacter.{lastTable, sundayMade, horspoolMade};
-ghost use Rattle.letter_tables.specs.DoubleWindow.{doubleMade};
 
 // Sets 256 entries: `base` less the last position of each letter among the pattern's first `count`.
 fn fill(pattern: &[u8], base: usize, count: usize, table: &mut [u16])
@@ -52,44 +51,4 @@ pub fn horspool_table(pattern: &[u8], table: &mut [u16])
         count = m - 1;
     }
     fill(pattern, m, count, table)
-}
-
-// Sets a row to the entries given.
-fn copied_row(row: &mut [u16], entries: &[u16])
-    requires { ⌜ length (now row) ≡ length (now entries) ⌝ }
-    ensures { λ _. ⌜ now (row .exit) ≡ now (entries .entry) ⌝ }
-{
-    let mut v = 0;
-    while v < row.len() {
-        row[v] = entries[v];
-        v += 1;
-    }
-}
-
-// The double window's 65,536 entries, that of (u, v) at 256 u + v, row by row. `far` holds 2m less the last position of each letter: the row of
-// a letter u that the pattern lacks. The row of a letter that it has is one value, m less its last position.
-pub fn double_window_table(pattern: &[u8], table: &mut [u16])
-    ensures { λ _. ⌜ now (table .exit) ≡ doubleMade (now (pattern .entry)) (now (table .entry)) ⌝ }
-{
-    let m = pattern.len();
-    if table.len() < 65536 {
-        return;
-    }
-    if 32767 < m {
-        return;
-    }
-    let mut far = [0; 256];
-    fill(pattern, 2 * m, m, &mut far);
-    let mut u = 0;
-    while u < 256 {
-        let first = 256 * u;
-        let end = first + 256;
-        let move_by_u = far[u] as usize;
-        if move_by_u < 2 * m {
-            tables::set_all(&mut table[first..end], (move_by_u - m) as u16);
-        } else {
-            copied_row(&mut table[first..end], &far);
-        }
-        u += 1;
-    }
 }

@@ -118,30 +118,6 @@ ruled-next {n} {rule} {table₀} {table} h r v e =
     after : (l : List ℕ) → drop (suc n) l ≡ drop 1 (drop n l)
     after l = let e : n + 1 ≡ suc n = omega arith in sym (drop-drop 1 n l ∙ ap (λ (i : ℕ). drop i l) e)
 
--- the next k entries are set, through a part of the table that was lent (`putMid` puts the part back)
-pub ruled-part : {n : ℕ} {rule : ℕ → ℕ} {table₀ table : List ℕ} → Ruled n rule table₀ table → (k : ℕ) (part : List ℕ) → n + k ≤ length table₀ → length part ≡ k
-    → ((i : ℕ) → i < k → getD part i 0 ≡ rule (n + i)) → Ruled (n + k) rule table₀ (putMid n k table part)
-ruled-part {n} {rule} {table₀} {table} r k part h size entries =
-    let front : length (take n table) ≡ n = length-take-le n table (r .room) in
-    let both : length (take n table ++ part) ≡ n + k = length-append (take n table) part ∙ omega arith in
-    let after : length (drop k (drop n table)) ≡ length table - n - k = length-drop k (drop n table) ∙ omega (arith, length-drop n table) in
-    let long : length (putMid n k table part) ≡ length table = simp (length-append) (omega (arith, r .long)) in
-    record {
-      entry = λ c l.
-          by-test (λ _. getD (putMid n k table part) c 0 ≡ rule c) (ltb c n)
-          (λ e. let l′ : c < n = ltb-true c n e in List·getD-append (take n table) (part ++ drop k (drop n table)) 0 c (omega arith) ∙ getD-take n table c 0 l′ ∙ r .entry c l′)
-          (λ e.
-          let l′ : n ≤ c = ltb-false c n e in
-          at-same (putMid n k table part) {i = c} {j = length (take n table) + (c - n)} (omega arith)
-          ∙ getD-append-add (take n table) (part ++ drop k (drop n table)) (c - n) 0
-          ∙ List·getD-append part (drop k (drop n table)) 0 (c - n) (omega arith) ∙ entries (c - n) (omega arith) ∙ ap rule (omega arith));
-      kept =
-          ap (λ (l : List ℕ). drop (n + k) l) (sym (append-assoc (take n table) part (drop k (drop n table)))) ∙ drop-at (take n table ++ part) (drop k (drop n table)) (n + k) both
-          ∙ ap (λ (l : List ℕ). drop k l) (r .kept) ∙ drop-drop k n table₀;
-      room = omega (arith, r .long);
-      long = long ∙ r .long;
-    }
-
 -- any entry is set: the rule changes there alone
 pub ruled-set : {n : ℕ} {f : ℕ → ℕ} {table₀ table : List ℕ} (g : ℕ → ℕ) (x v : ℕ) → x < n → ((c : ℕ) → g c ≡ cond (eqb x c) v (f c)) → Ruled n f table₀ table → Ruled n g table₀ (set table x v)
 ruled-set {n} {f} {table₀} {table} g x v h change r =

@@ -73,15 +73,6 @@ fn letter_tables_in_255(pattern: &[u8]) {
     entries(&table, 96, 110);
 }
 
-// The double window's table: entries of one row or another. It has 65,536 entries, and one more here.
-fn double_table(pattern: &[u8], from: usize, to: usize) {
-    let mut table = [9; 65537];
-    letter_tables::double_window_table(pattern, &mut table);
-    io::write_all(1, b"double table ");
-    io::write_all(1, pattern);
-    entries(&table, from, to);
-}
-
 fn tables() {
     kmp_table(b"a", 3);
     kmp_table(b"aaaa", 6);
@@ -104,18 +95,6 @@ fn letter_tables() {
     horspool_table(b"abcabcacab", 96, 110);
     horspool_table(b"~", 125, 128);
     letter_tables_in_255(b"la");
-}
-
-// Rows of a letter that ends the pattern, of one inside it, and of one it lacks, at the letters 0x60 to 0x6D; and the last entries.
-fn double_tables() {
-    double_table(b"aba", 24928, 24942);
-    double_table(b"aba", 25184, 25198);
-    double_table(b"aba", 25440, 25454);
-    double_table(b"aba", 65535, 65537);
-    double_table(b"abcabcacab", 24928, 24942);
-    double_table(b"abcabcacab", 25184, 25198);
-    double_table(b"abcabcacab", 25440, 25454);
-    double_table(b"abcabcacab", 25696, 25710);
 }
 
 // The engine of a method number by its name.
@@ -144,9 +123,9 @@ fn places(list: &[u32]) {
 
 // A find with a scratch of so many entries: the refusal, the total, the comparisons, and a list of four.
 fn found(method: u32, pattern: &[u8], text: &[u8], room: usize) {
-    let mut scratch = [9; 65792];
+    let mut scratch = [9; 1281];
     let mut list = [9; 4];
-    if room <= 65792 {
+    if room <= 1281 {
         let r = find::find(method, pattern, text, &mut scratch[..room], &mut list);
         number(r.refusal as u64);
         number(r.total as u64);
@@ -175,7 +154,7 @@ fn limit(method: u32, m: usize, n: usize) {
             name(method);
             number(m as u64);
             number(n as u64);
-            found(method, &pattern[..m], &text[..n], 65792);
+            found(method, &pattern[..m], &text[..n], 1281);
         }
     }
 }
@@ -187,8 +166,8 @@ fn engine(method: u32, enough: usize) {
         case(method, b"aba", b"ababa", enough - 1);
     }
     case(method, b"", b"ababa", enough);
-    case(method, b"lalala", b"lala lalalalala lala", 65792);
-    case(method, b"ababa", b"aba", 65792);
+    case(method, b"lalala", b"lala lalalalala lala", 1281);
+    case(method, b"ababa", b"aba", 1281);
     limit(method, 1024, 1030);
     limit(method, 1025, 1030);
     limit(method, 2, 32768);
@@ -198,12 +177,11 @@ fn engine(method: u32, enough: usize) {
 fn main() {
     tables();
     letter_tables();
-    double_tables();
     engine(0, 0);
     engine(1, 4);
     engine(2, 256);
     engine(3, 256);
     engine(4, 260);
-    engine(5, 65792);
-    case(6, b"aba", b"ababa", 65792);
+    engine(5, 256);
+    case(6, b"aba", b"ababa", 1281);
 }

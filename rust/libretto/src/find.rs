@@ -17,7 +17,7 @@ pub enum Method {
     Sunday = 3,
     /// Franek, Jennings and Smyth: Sunday's moves while nothing is matched, those of KMP otherwise; at most 3n − 2m comparisons.
     Fjs = 4,
-    /// Two text letters, m places apart, give the move.
+    /// The text letter under the phrase's end gives the move, and where the phrase lacks it, the letter m places on adds to it.
     DoubleWindow = 5,
 }
 
@@ -39,19 +39,18 @@ impl Method {
     /// ```
     /// use libretto::Method;
     /// assert_eq!(Method::Fjs.scratch_entries(3), 260);
-    /// assert_eq!(Method::DoubleWindow.scratch_entries(3), 65_792);
+    /// assert_eq!(Method::DoubleWindow.scratch_entries(3), 256);
     /// ```
     pub const fn scratch_entries(self, m: usize) -> usize {
         match self {
             Method::Naive => 0,
             Method::Kmp => m.saturating_add(1),
-            Method::Horspool | Method::Sunday => 256,
+            Method::Horspool | Method::Sunday | Method::DoubleWindow => 256,
             Method::Fjs => m.saturating_add(257),
-            Method::DoubleWindow => 256 + 65_536,
         }
     }
 
-    /// The engine's name: for methods 0 to 4 the word that the finder program prints, and `double` for the double window.
+    /// The engine's name: the word that the finder program prints at the front of its line.
     pub const fn name(self) -> &'static str {
         match self {
             Method::Naive => "naive",
@@ -155,6 +154,7 @@ mod tests {
             assert_eq!(find_all(method, b"a", &[b'a'; 32_768]).map(|list| list.len()), Ok(32_768));
         }
         assert_eq!(find(Method::Kmp, b"abc", b"abc", &mut [0; 3], &mut []), Err(Refusal::ShortScratch));
+        assert_eq!(find(Method::DoubleWindow, b"abc", b"abc", &mut [0; 255], &mut []), Err(Refusal::ShortScratch));
     }
 
     #[test]

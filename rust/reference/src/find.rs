@@ -1,4 +1,4 @@
-//! Document 01, "What a find call takes and leaves" and "What a refused call hands back", rows 1 to 5.
+//! Document 01, "What a find call takes and leaves" and "What a refused call hands back", rows 1 to 5; the scratch of method 5 by document 02, (v).
 
 use crate::{double_window, fjs, horspool, kmp, naive, sunday};
 
@@ -22,7 +22,7 @@ pub fn find(method: u32, phrase: &[u8], text: &[u8], scratch: &mut [u16], list: 
         1 => phrase.len() + 1,
         2 | 3 => 256,
         4 => 256 + phrase.len() + 1,
-        _ => 256 + 65_536,
+        _ => 256,
     };
     if scratch.len() < needed {
         return (5, 0, 0);
@@ -35,7 +35,7 @@ pub fn find(method: u32, phrase: &[u8], text: &[u8], scratch: &mut [u16], list: 
         2 => horspool::table(phrase),
         3 => sunday::table(phrase),
         4 => [sunday::table(phrase), kmp::table(phrase)].concat(),
-        _ => [horspool::table(phrase), double_window::table(phrase)].concat(),
+        _ => horspool::table(phrase),
     };
     assert_eq!(tables.len(), needed);
     scratch[..needed].copy_from_slice(&tables);
@@ -51,7 +51,7 @@ pub fn find(method: u32, phrase: &[u8], text: &[u8], scratch: &mut [u16], list: 
         2 => horspool::run(phrase, text, &tables),
         3 => sunday::run(phrase, text, &tables),
         4 => fjs::run(phrase, text, &tables[..256], &tables[256..]),
-        _ => double_window::run(phrase, text, &tables[..256], &tables[256..]),
+        _ => double_window::run(phrase, text, &tables),
     };
 
     // The list receives the first places up to its length; entries past those written keep their values; the total is full.

@@ -1,4 +1,4 @@
-//! Document 01, "The finder program".
+//! Document 01, "The finder program"; its last line by document 02, (v).
 
 use crate::find;
 
@@ -15,7 +15,7 @@ pub fn finder_output(input: &[u8]) -> Vec<u8> {
     };
     // Lines: engine, total, comparisons, and the places in the list.
     let mut output = String::new();
-    for (method, engine) in ["naive", "kmp", "horspool", "sunday", "fjs"].iter().enumerate() {
+    for (method, engine) in ["naive", "kmp", "horspool", "sunday", "fjs", "double"].iter().enumerate() {
         let mut scratch = vec![0; 256 + 1024 + 1];
         let mut list = vec![0; 4096];
         let (refusal, total, comparisons) = find(method as u32, phrase, text, &mut scratch, &mut list);

@@ -1,5 +1,5 @@
-//! The finding, the cue book and the cue resolver of document 01, written again from its words alone: simple, slow, and independent of the library
-//! that it is compared with.
+//! The finding, the cue book and the cue resolver of document 01, as document 02 changes them, written again from their words alone: simple, slow, and
+//! independent of the library that it is compared with.
 //!
 //! [`find`] is the find call; [`finder_output`] is what the finder program prints. Each engine has a file of its own, with its table's rule and its
 //! steps. Tables are made by brute force from their rules; [`kmp_table`] and its like make one by itself. [`read_book`], [`title`] and [`write_cue`]
@@ -29,7 +29,7 @@ pub use find::find;
 pub use finder::finder_output;
 pub use fold::{fold, fold_text};
 pub use resolver::resolve;
-pub use tables::{double_window_table, horspool_table, kmp_table, sunday_table};
+pub use tables::{horspool_table, kmp_table, sunday_table};
 
 /// What an engine gives: the places, rising, counted from 0, and the number of looks at a pair P[j], T[i].
 #[derive(Default)]

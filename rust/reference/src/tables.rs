@@ -1,7 +1,7 @@
 //! Document 01, "Definitions and steps": the tables by themselves, each made in a lent table. Its entries go to the front; a table that is too short
 //! for them stays as it was.
 
-use crate::{double_window, horspool, kmp, sunday};
+use crate::{horspool, kmp, sunday};
 
 pub fn kmp_table(phrase: &[u8], table: &mut [u16]) {
     put(&kmp::table(phrase), table);
@@ -13,10 +13,6 @@ pub fn sunday_table(phrase: &[u8], table: &mut [u16]) {
 
 pub fn horspool_table(phrase: &[u8], table: &mut [u16]) {
     put(&horspool::table(phrase), table);
-}
-
-pub fn double_window_table(phrase: &[u8], table: &mut [u16]) {
-    put(&double_window::table(phrase), table);
 }
 
 fn put(entries: &[u16], table: &mut [u16]) {

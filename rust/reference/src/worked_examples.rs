@@ -1,4 +1,4 @@
-//! The worked examples of document 01, "The finder program" and "Refrains to try", and the tests that books, cues and lent
+//! The worked examples of document 01, "The finder program" and "Refrains to try", and of document 02, (v), and the tests that books, cues and lent
 //! memory meet.
 
 use crate::{cues, read_book, read_cue, read_due, read_field, title, write_cue, Cue, Field};
@@ -6,7 +6,7 @@ use crate::{double_window, find, finder_output, fjs, fold, fold_text, horspool, 
 
 /// Total, comparisons and places by a method, with memory enough.
 fn found(method: u32, phrase: &[u8], text: &[u8]) -> (u32, u32, Vec<u32>) {
-    let mut scratch = vec![7; 65_792];
+    let mut scratch = vec![7; 1281];
     let mut list = vec![7; text.len()];
     let (refusal, total, comparisons) = find(method, phrase, text, &mut scratch, &mut list);
     assert_eq!(refusal, 0);
@@ -16,19 +16,14 @@ fn found(method: u32, phrase: &[u8], text: &[u8]) -> (u32, u32, Vec<u32>) {
 
 #[test]
 fn finder_lines() {
-    let lines = "naive 2 7 0 2\nkmp 2 5 0 2\nhorspool 2 6 0 2\nsunday 2 6 0 2\nfjs 2 5 0 2\n";
+    let lines = "naive 2 7 0 2\nkmp 2 5 0 2\nhorspool 2 6 0 2\nsunday 2 6 0 2\nfjs 2 5 0 2\ndouble 2 4 0 2\n";
     assert_eq!(finder_output(b"aba\nababa"), lines.as_bytes());
     assert_eq!(finder_output(b""), b"refused 2\n");
     assert_eq!(finder_output(b"\n"), b"refused 2\n");
-    assert_eq!(finder_output(b"ab"), b"naive 0 0\nkmp 0 0\nhorspool 0 0\nsunday 0 0\nfjs 0 0\n");
+    assert_eq!(finder_output(b"ab"), b"naive 0 0\nkmp 0 0\nhorspool 0 0\nsunday 0 0\nfjs 0 0\ndouble 0 0\n");
     assert_eq!(finder_output(&[b'a'; 1025]), b"refused 3\n");
     assert_eq!(finder_output(&[b'a'; 33_793]), b"refused 3\n");
     assert_eq!(finder_output(&[b'a'; 33_794]), b"refused 4\n");
-}
-
-#[test]
-fn double_window_in_ababa() {
-    assert_eq!(found(5, b"aba", b"ababa"), (2, 4, vec![0, 2]));
 }
 
 #[test]
@@ -50,12 +45,37 @@ fn tables_of_abaaca() {
 
 #[test]
 fn double_window_entries_of_abaaca() {
-    let entries = double_window::table(b"abaaca");
-    let entry = |u: u8, v: u8| entries[256 * u as usize + v as usize];
-    assert_eq!(entries.len(), 65_536);
+    let entry = |u: u8, v: u8| double_window::entry(b"abaaca", u, Some(v));
     assert_eq!((entry(b'a', b'a'), entry(b'a', b'x')), (0, 0));
     assert_eq!((entry(b'c', b'a'), entry(b'b', b'x')), (1, 4));
     assert_eq!((entry(b'x', b'a'), entry(b'x', b'b'), entry(b'x', b'c'), entry(b'x', b'x')), (6, 10, 7, 12));
+    let by_u_alone = |u: u8| double_window::entry(b"abaaca", u, None);
+    assert_eq!((by_u_alone(b'a'), by_u_alone(b'b'), by_u_alone(b'c'), by_u_alone(b'x')), (0, 4, 1, 6));
+}
+
+/// Texts in which each kind of move leads to an occurrence, which costs a look at each letter but the last.
+#[test]
+fn double_window_moves() {
+    assert_eq!(found(5, b"aba", b"ababa"), (2, 4, vec![0, 2]));
+    // By a u of the phrase; by an absent u and a v that is the last letter, another one of the phrase, or absent too.
+    assert_eq!(found(5, b"aba", b"caba"), (1, 2, vec![1]));
+    assert_eq!(found(5, b"aba", b"cccaba"), (1, 2, vec![3]));
+    assert_eq!(found(5, b"aba", b"cccaaba"), (1, 2, vec![4]));
+    assert_eq!(found(5, b"aba", b"ccccccaba"), (1, 2, vec![6]));
+    // An absent u with v past the text; and a phrase of one letter, which is looked at nowhere.
+    assert_eq!(found(5, b"aba", b"ababc"), (1, 2, vec![0]));
+    assert_eq!(found(5, b"a", b"cabcca"), (2, 0, vec![1, 5]));
+}
+
+#[test]
+fn double_window_scratch() {
+    for length in [256, 257, 1281] {
+        let mut scratch = vec![7; length];
+        assert_eq!(find(5, b"aba", b"ababa", &mut scratch[..255], &mut []), (5, 0, 0));
+        assert_eq!(scratch, vec![7; length]);
+        assert_eq!(find(5, b"aba", b"ababa", &mut scratch, &mut []), (0, 2, 4));
+        assert_eq!(scratch, [horspool::table(b"aba"), vec![7; length - 256]].concat());
+    }
 }
 
 #[test]

@@ -60,14 +60,13 @@ pub fn compare(method: u32, phrase: &[u8], text: &[u8], scratch_len: usize, list
     })
 }
 
-/// The scratch entries that a method needs (document 01's table), and 300 for a number that is no method.
+/// The scratch entries that a method needs (document 01's table, and document 02, (v), for method 5), and 300 for a number that is no method.
 pub fn needed(method: u32, m: usize) -> usize {
     match method {
         0 => 0,
         1 => m + 1,
-        2 | 3 => 256,
+        2 | 3 | 5 => 256,
         4 => m + 257,
-        5 => 65_792,
         _ => 300,
     }
 }

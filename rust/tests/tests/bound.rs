@@ -33,9 +33,9 @@ fn near_the_bound() {
             let place = random.below(n);
             text[place] = b'b';
         }
-        for method in 0..=4 {
+        for method in 0..=5 {
             compare(method, &phrase, &text, needed(method, m), n, random.next());
         }
     }
-    report("near_the_bound", 20_000);
+    report("near_the_bound", 24_000);
 }

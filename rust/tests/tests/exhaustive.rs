@@ -18,6 +18,21 @@ fn all_pairs(letters: usize, longest_phrase: usize, longest_text: usize) {
     }
 }
 
+/// The double window alone, with a letter c in the texts that no phrase has, and texts in which three windows stand side by side: the letter under the
+/// window's end is then the phrase's last, another one of it, or absent, and so is the letter m places on, or it lies past the text.
+#[test]
+fn double_window_by_an_absent_letter() {
+    let texts: Vec<Vec<u8>> = (0..=9).flat_map(|length| all_words(3, length)).collect();
+    let mut seed = 0;
+    for phrase in (1..=3).flat_map(|length| all_words(2, length)) {
+        for text in &texts {
+            compare(5, &phrase, text, 256 + (seed % 3) as usize, text.len() + 1, seed);
+            seed += 1;
+        }
+    }
+    report("double_window_by_an_absent_letter", 14 * 29_524);
+}
+
 #[test]
 fn two_letters() {
     all_pairs(2, 4, 9);

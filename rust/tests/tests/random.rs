@@ -36,12 +36,11 @@ fn phrase(random: &mut Random, letters: usize, text: &[u8]) -> Vec<u8> {
 fn over(letters: usize, test: &str) {
     let pairs = 30_000;
     let mut random = Random::new(1000 + letters as u64);
-    for pair in 0..pairs {
+    for _ in 0..pairs {
         let length = text_length(&mut random);
         let text = random.word(letters, length);
         let phrase = phrase(&mut random, letters, &text);
-        // Method 5 has 65,536 entries to fill and compare, so it takes every sixth pair only.
-        for method in 0..=if pair % 6 == 0 { 5 } else { 4 } {
+        for method in 0..=5 {
             let scratch_len = needed(method, phrase.len()) + random.below(4);
             let list_len = match random.below(4) {
                 0 => 0,
@@ -51,7 +50,7 @@ fn over(letters: usize, test: &str) {
             compare(method, &phrase, &text, scratch_len, list_len, random.next());
         }
     }
-    report(test, pairs * 5 + pairs / 6);
+    report(test, pairs * 6);
 }
 
 #[test]

@@ -41,6 +41,12 @@ slice-aggregate-put-engine-5 c = search needs
 put-engine-requires-5 : tie.Need-put-engine-requires-5
 put-engine-requires-5 c κs = search needs
 
+slice-aggregate-put-engine-6 : tie.Need-slice-aggregate-put-engine-6
+slice-aggregate-put-engine-6 c = search needs
+
+put-engine-requires-6 : tie.Need-put-engine-requires-6
+put-engine-requires-6 c κs = search needs
+
 same-length : tie.Need-same-length
 same-length c = search needs
 
@@ -74,11 +80,18 @@ same-length-5 c = search needs
 
 returns-5 : tie.Need-returns-5
 unfolding rows engineOf
-returns-5 c =
+returns-5 c = let e = c .before .before in rw (e .before .before .before .match .keys5) (e .put-engine5 .ensures)
+
+same-length-6 : tie.Need-same-length-6
+same-length-6 c = search needs
+
+returns-6 : tie.Need-returns-6
+unfolding rows engineOf
+returns-6 c =
     let e = c .before .before in
     let m = e .before .before .before in
-    let is : start m .args .row ≡ 4 = omega (arith, start m .pre .0, m .match .rest) in
-    rw is (e .put-engine5 .ensures)
+    let is : start m .args .row ≡ 5 = omega (arith, start m .pre .0, m .match .rest) in
+    rw is (e .put-engine6 .ensures)
 
 pub put-row-spec : {M : Type 1} → statement M
 put-row-spec =
@@ -94,6 +107,8 @@ put-row-spec =
     put-engine-requires-4
     slice-aggregate-put-engine-5
     put-engine-requires-5
+    slice-aggregate-put-engine-6
+    put-engine-requires-6
     same-length
     returns
     same-length-2
@@ -103,4 +118,6 @@ put-row-spec =
     same-length-4
     returns-4
     same-length-5
-    returns-5)
+    returns-5
+    same-length-6
+    returns-6)
