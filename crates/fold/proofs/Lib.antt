@@ -1,3 +1,2 @@
 -- The laws of folding.
-pub mod Table
 pub mod Fold

@@ -13,15 +13,18 @@ use Rattle.matching.specs.Received.{received}
 use Rattle.matching.proofs.CaseAnalysis.{by-test}
 use Rattle.matching.proofs.Received.{received-none, received-more, received-enough, length-received}
 use Rattle.fold.specs.Fold.{folded}
-use Rattle.fold.proofs.Table.{table-at}
 use Rattle.fold.proofs.letters.Statement.{statement}
 use Rattle.fold.proofs.letters.Tie as tie
 
 abbrev Inv-loop : tie.InvT-loop
-Inv-loop source target₀ table end i₀ target i = (target ≡ received target₀ (take i (map folded source))) × ((i ≤ end) × (end ≡ min (length source) (length target₀)))
+Inv-loop source target₀ end i₀ target i = (target ≡ received target₀ (take i (map folded source))) × ((i ≤ end) × (end ≡ min (length source) (length target₀)))
 
 abbrev μ-loop : tie.MeasureT-loop
-μ-loop source target₀ table end i₀ target i = end - i
+μ-loop source target₀ end i₀ target i = end - i
+
+-- the call, from the loop
+abbrev start : tie.At-loop Inv-loop μ-loop → tie.Start Inv-loop μ-loop
+start l = l .before .before .before .before
 
 -- one letter more
 more : (source target : List ℕ) (i v : ℕ) → i < length source → v ≡ folded (getD source i 0)
@@ -43,21 +46,18 @@ all source target i e =
     (λ t. ap (received target) (take-all i (map folded source) (omega (arith, leb-false (length target) i t, length-map source folded))))
 
 loop-holds : tie.Need-loop-holds Inv-loop μ-loop
-loop-holds c = let a = c .before .args in (sym (received-none (a .target .now)), (omega arith, ⊎-elim (λ w. omega arith) (λ w. omega arith) (c .if1 .came)))
+loop-holds c = let a = c .before .before .before .args in (sym (received-none (a .target .now)), (omega arith, ⊎-elim (λ w. omega arith) (λ w. omega arith) (c .if1 .came)))
 
-shared-slice-read-target : tie.Need-shared-slice-read-target Inv-loop μ-loop
-shared-slice-read-target c = omega arith
+shared-slice-read-letter : tie.Need-shared-slice-read-letter Inv-loop μ-loop
+shared-slice-read-letter c = omega arith
 
-cast-target : tie.Need-cast-target Inv-loop μ-loop
-cast-target c = omega (arith, c .shared-slice-known .given (c .before .before .loop .i))
-
-array-read-target : tie.Need-array-read-target Inv-loop μ-loop
-array-read-target c = omega (arith, c .shared-slice-known .given (c .before .before .loop .i))
+letter-requires : tie.Need-letter-requires Inv-loop μ-loop
+letter-requires c κs = tt
 
 slice-write-target : tie.Need-slice-write-target Inv-loop μ-loop
 slice-write-target c =
-    let l = c .before .before in
-    let a = l .before .before .args in
+    let l = c .before .before .before in
+    let a = start l .args in
     omega (arith, ap length (l .loop .inv .0), length-received (a .target .now) (take (l .loop .i) (map folded (a .source .now))))
 
 add-i : tie.Need-add-i Inv-loop μ-loop
@@ -68,18 +68,15 @@ loop-less c = omega arith
 
 loop-again : tie.Need-loop-again Inv-loop μ-loop
 loop-again c =
-    let l = c .before .before in
-    let a = l .before .before .args in
-    let S = a .source .now in
-    let x = getD S (l .loop .i) 0 in
-    let byte : x < 256 = omega (arith, c .shared-slice-known .given (l .loop .i)) in
-    (rw (l .loop .inv .0) (more S (a .target .now) (l .loop .i) _ (omega arith) (table-at x byte)), (omega arith, l .loop .inv .1 .1))
+    let l = c .before .before .before in
+    let a = start l .args in
+    (rw (l .loop .inv .0) (more (a .source .now) (a .target .now) (l .loop .i) _ (omega arith) (c .letter .ensures)), (omega arith, l .loop .inv .1 .1))
 
 same-length : tie.Need-same-length Inv-loop μ-loop
 same-length c = let l = c .before in ap length (l .loop .inv .0) ∙ length-received _ _
 
 returns : tie.Need-returns Inv-loop μ-loop
-returns c = let l = c .before in let a = l .before .before .args in l .loop .inv .0 ∙ all (a .source .now) (a .target .now) (l .loop .i) (omega arith)
+returns c = let l = c .before in let a = start l .args in l .loop .inv .0 ∙ all (a .source .now) (a .target .now) (l .loop .i) (omega arith)
 
 pub letters-spec : {M : Type 1} → statement M
 letters-spec =
@@ -88,9 +85,8 @@ letters-spec =
     Inv-loop
     μ-loop
     loop-holds
-    shared-slice-read-target
-    cast-target
-    array-read-target
+    shared-slice-read-letter
+    letter-requires
     slice-write-target
     add-i
     loop-less
