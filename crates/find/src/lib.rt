@@ -1,4 +1,5 @@
-// The method number: it picks the engine behind it, and refuses a number that has none. It depends on the engines; callers need nothing of them.
+// The method number: it picks the engine behind it, and refuses a number that has none. It depends on the engines, of which callers need nothing, and on `matching` for a
+// finding.
 use matching::Finding;
 ghost use Rattle.find.specs.Find.{Answered};
 

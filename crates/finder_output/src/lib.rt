@@ -1,5 +1,6 @@
 // What the finder program of document 01 prints, as one function over slices: it splits the input into phrase and text, and lays out one line an engine, or one refusal.
-// It depends on `matching` for the refusals, on `find` for the finds, and on `finder_lines` for every byte of the output. The program `finder` only reads and writes.
+// It depends on `matching` for the refusals, on `find` and the engines for the finds, and on `finder_lines` and `pieces` for every byte of the output. The program `finder` only
+// reads and writes.
 // The contract is an equation for every input (specs/Printed.antt); the output's size is shown to be enough (proofs/Fits.antt), so no line is ever left out.
 ghost use mathlib.Core.Path.{_≡_};
 ghost use Prim.Native.Nat.{_≤_, _<_};

@@ -1,5 +1,5 @@
 // The Franek-Jennings-Smyth engine (source document 001, Algorithm 3): Sunday's move while the last letter differs, KMP's move once letters are equal.
-// It depends on `matching`, and on `letter_tables` and `border_tables` for the entries. Beside `find` it offers `nth`, which stops at the occurrence that is wanted.
+// It depends on `matching`, and on `tables`, `letter_tables` and `border_tables` for the entries. Beside `find` it offers `nth`, which stops at the occurrence that is wanted.
 // Demand 3 is carried by proofs/Bound.antt (at most 3n - 2m comparisons) and proofs/Aba.antt (aba in n letters a costs 3n - 6).
 use matching::Finding;
 ghost use mathlib.Core.Path.{_≡_};

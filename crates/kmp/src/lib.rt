@@ -1,4 +1,4 @@
-// The KMP engine: left to right, and after a mismatch or an occurrence at j go on from b[j]. It depends on `matching`, and on `border_tables` for the entries.
+// The KMP engine: left to right, and after a mismatch or an occurrence at j go on from b[j]. It depends on `matching`, and on `tables` and `border_tables` for the entries.
 // Where nothing is carried the first letter has a test of its own: b[1] is 0, so a mismatch there moves by 1 with nothing carried.
 use matching::Finding;
 ghost use Rattle.matching.specs.Find.{Found};

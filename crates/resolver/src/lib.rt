@@ -1,5 +1,6 @@
 // The resolver (document 01, "Cue book, folding, lines"): from the cues of a book to place, line and column, as `outcome` defines it.
-// It depends on `cues` and `cue_book` for the cues, on `fold`, on `fjs` for the occurrence that a cue names, and on `line_column` for the line rule.
+// It depends on `cue_fields`, `cues` and `cue_book` for the cues, on `fold`, on `fjs` for the occurrence that a cue names, on `line_column` for the line rule, on `tables` to
+// clear the scratch, and on `matching` for the laws of lent lists and of occurrences.
 use cue_book::Answer;
 use cues::CueAnswer;
 use fjs::Place;

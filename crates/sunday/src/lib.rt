@@ -1,5 +1,5 @@
 // Sunday's engine: left to right, then move by the entry of the text letter after the window; if there is none, stop. It depends on `matching`, and on
-// `letter_tables` for the entries.
+// `tables` and `letter_tables` for the entries.
 use matching::Finding;
 ghost use Rattle.matching.specs.Find.{Found};
 ghost use Rattle.sunday.specs.Sunday.{sunday};
