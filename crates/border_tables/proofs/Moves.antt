@@ -1,16 +1,19 @@
 -- What engines cite of the KMP table: a move by its rule goes on, passes over no occurrence, and carries letters that are equal (`Moves`, of the window machine).
--- All of it is shown from the rule alone, never from how the table is filled. Assumes nothing.
-use mathlib.Core.Path.{_≡_, sym, ap₂, subst, _∙_}
-use Prim.Native.Nat.{ℕ, suc, _+_, _-_, _≤_, _<_}
+-- And what such a move pays for the looks of its window (`Paid`, `Pays`). All of it is shown from the rule alone, never from how the table is filled. Assumes nothing.
+use mathlib.Core.Path.{_≡_, sym, ap, ap₂, subst, _∙_}
+use Prim.Native.Nat.{ℕ, suc, _+_, _-_, _*_, _≤_, _<_}
 use native.Mathlib.Omega.{arith}
+use native.Mathlib.Nat.{mul-add, suc-mul, le-mul-of-pos-right}
 use mathlib.Core.List.{List}
 use lib.ListN.{length, getD}
-use Rattle.matching.specs.Machine.{at}
+use Rattle.matching.specs.Letters.{equalOn, reach, looks}
+use Rattle.matching.specs.Machine.{at, firstToLast}
 use Rattle.matching.specs.Find.{Engine}
 use Rattle.matching.proofs.CaseAnalysis.{at-same}
 use Rattle.matching.proofs.Occurrences.{Stands}
-use Rattle.matching.proofs.Letters.{Meets}
+use Rattle.matching.proofs.Letters.{Meets, reach-le, looks-le, looks-few}
 use Rattle.matching.proofs.Machine.{Moves}
+use Rattle.matching.proofs.Costs.{Paid, Pays}
 use Rattle.matching.proofs.Progress.{Progress}
 use Rattle.tables.proofs.Tables.{Reads}
 use Rattle.border_tables.specs.Kmp.{kmpEntry}
@@ -46,6 +49,26 @@ module _ (P T : List ℕ) (s r : ℕ) (r≤ : r ≤ length P) (meets : Meets P T
         skips = kmp-safe;
         hands = record { part = omega (arith, kmpEntry-le P r); meets = kmp-meets };
       }
+
+-- what a move by the rule pays, at k + 1 a position: since b[j] is below j, all that was spent up to k more than the letters that are equal
+pub kmp-paid : (k : ℕ) (P : List ℕ) (s r spent : ℕ) → spent ≤ r + k → Paid k spent s (kmpMove P s r)
+unfolding kmpMove
+kmp-paid k P s r spent h =
+    let b : ℕ = kmpEntry P r in
+    let le : b ≤ r = kmpEntry-le P r in
+    let d : ℕ = suc r - b in
+    let to : suc k * (s + suc r - b) ≡ suc k * s + (k * d + d) = ap (λ x. suc k * x) (omega arith) ∙ mul-add (suc k) s d ∙ ap (λ x. suc k * s + x) (suc-mul k d) in
+    omega (arith, to, le-mul-of-pos-right {m = d} k (omega arith))
+
+-- so a window that is compared first to last, with at most one look more than letters are equal, pays for its looks from 2 a position on
+pub kmp-pays : (k : ℕ) (P T : List ℕ) (s q : ℕ) → 1 ≤ k → q < length P → Pays k P s q (firstToLast P T s q (kmpMove P s (reach P T s q)))
+kmp-pays k P T s q one part =
+    let e : ℕ = equalOn P T s q in
+    let r≤ : reach P T s q ≤ length P = reach-le P T s q (omega arith) in
+    record {
+      few = omega (arith, looks-le (length P - q) e (omega arith));
+      paid = kmp-paid k P s (reach P T s q) (looks (length P - q) e + q) (omega (arith, looks-few (length P - q) e));
+    }
 
 pub kmp-next : (P : List ℕ) (s r b s′ q′ : ℕ) → b ≡ kmpEntry P r → s′ + b ≡ s + suc r → q′ ≡ b - 1 → kmpMove P s r ≡ at s′ q′
 unfolding kmpMove

@@ -2,7 +2,7 @@
 -- returns that number, whatever the lent memory (`aba-found`). Every window looks at its last letter, at its first and at its second, which differs, and moves on by 1.
 -- Assumes nothing.
 use mathlib.Core.Path.{_≡_, sym, ap, _∙_}
-use Prim.Native.Nat.{ℕ, zero, suc, _+_, _-_, _*_, _≤_, _<_}
+use Prim.Native.Nat.{ℕ, _+_, _-_, _*_, _≤_, _<_}
 use native.Mathlib.Omega.{arith}
 use mathlib.Core.Bool.{false}
 use mathlib.Core.List.{List, [], _∷_}
@@ -11,11 +11,11 @@ use borrow.Author.Tests.{ne-eqb}
 use Rattle.matching.specs.declared.Finding.{Finding}
 use Rattle.matching.specs.Occurrences.{same}
 use Rattle.matching.specs.Letters.{reach}
-use Rattle.matching.specs.Machine.{at, windows, runFrom, comparedIn}
+use Rattle.matching.specs.Machine.{Window, at}
 use Rattle.matching.specs.Find.{compared, Found}
 use Rattle.matching.proofs.Letters.{reach-first, reach-unequal}
-use Rattle.matching.proofs.Machine.{windows-on, windows-off}
-use Rattle.matching.proofs.Find.{found-answer, found-none}
+use Rattle.matching.proofs.Find.{found-compared}
+use Rattle.matching.proofs.Costs.{run-alike}
 use Rattle.tables.specs.Tables.{largest}
 use Rattle.border_tables.specs.Kmp.{border, strong, kmpEntry}
 use Rattle.border_tables.proofs.Moves.{kmp-next}
@@ -47,19 +47,12 @@ module _ (a b : ℕ) (differ : a ≡ b → ⊥) where
         window-fresh (aba a b) (replicate n a) s (omega arith) (omega arith) (sym (letter (s + 2) (omega arith)))
         ∙ rw (one s h, kmp-next (aba a b) s 1 1 (s + 1) 0 (sym second) (omega arith) (omega arith))
 
-    -- d windows are left
-    left : (d f s : ℕ) → s + 2 + d ≡ n → d ≤ f → comparedIn (windows f window (aba a b) (replicate n a) (at s 0)) ≡ 3 * d
-    unfolding comparedIn
-    left zero f s e h = let long : length (replicate n a) ≡ n = length-replicate n a in ap comparedIn (windows-off f window (aba a b) (replicate n a) s 0 (omega arith)) ∙ omega arith
-    left (suc d) zero s e h = absurd (omega arith)
-    left (suc d) (suc f) s e h =
-        let long : length (replicate n a) ≡ n = length-replicate n a in
-        rw (windows-on f window (aba a b) (replicate n a) s 0 (omega arith), each s (omega arith)) (omega (arith, left d f (s + 1) (omega arith) (omega arith)))
-
     pub aba-costs : 3 ≤ n → compared fjs (aba a b) (replicate n a) ≡ 3 * n - 6
-    unfolding compared runFrom
-    aba-costs h = left (n - 2) (suc (length (replicate n a))) 0 (omega arith) (omega (arith, length-replicate n a)) ∙ omega arith
+    unfolding compared
+    aba-costs h =
+        let long : length (replicate n a) ≡ n = length-replicate n a in
+        run-alike window (aba a b) (replicate n a) 3 0 (λ s i. let v = each s (omega arith) in (ap (λ (x : Window). x .compared) v, ap (λ (x : Window). x .next) v)) (n - 2) 0 (omega arith) ∙ omega arith
 
     pub aba-found : 3 ≤ n → {scratch list : List ℕ} {r : Finding} {scratch′ list′ : List ℕ} → Found fjs (aba a b) (replicate n a) scratch list r scratch′ list′ → r .refusal ≡ 0
         → r .comparisons ≡ 3 * n - 6
-    aba-found h found z = ap (λ (r : Finding). r .comparisons) (found-answer found (found-none found z)) ∙ aba-costs h
+    aba-found h found z = found-compared found z ∙ aba-costs h

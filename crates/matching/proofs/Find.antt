@@ -95,6 +95,21 @@ module _ {e : Engine} {P T scratch list : List ℕ} where
       let is : r ≡ record { refusal = refusalOf e P T scratch; total = 0; comparisons = 0 } = f .answer ∙ rw t in
       sym (ap (λ (x : Finding). x .refusal) is) ∙ z)
 
+  -- the comparisons of a find: those of the engine's steps where it is not refused, and otherwise none. So a bound on the steps of every pattern that a find takes bounds them
+  module _ {r : Finding} {scratch′ list′ : List ℕ} (f : Found e P T scratch list r scratch′ list′) where
+    pub found-compared : r .refusal ≡ 0 → r .comparisons ≡ compared e P T
+    found-compared z = ap (λ (x : Finding). x .comparisons) (found-answer f (found-none f z))
+
+    pub found-most : {most : ℕ} → (1 ≤ length P → compared e P T ≤ most) → r .comparisons ≤ most
+    found-most {most} bound =
+        by-test (λ _. r .comparisons ≤ most) (eqb (refusalOf e P T scratch) 0)
+        (λ t.
+        let none = eqb-true (refusalOf e P T scratch) 0 t in
+        omega (arith, ap (λ (x : Finding). x .comparisons) (found-answer f none), bound (within (length P) (length T) (length scratch) _ none .some)))
+        (λ t.
+        let is : r ≡ record { refusal = refusalOf e P T scratch; total = 0; comparisons = 0 } = f .answer ∙ rw t in
+        omega (arith, ap (λ (x : Finding). x .comparisons) is))
+
   -- a find of a pattern longer than the text that is not refused
   pub found-longer : {r : Finding} {scratch′ list′ : List ℕ} → Found e P T scratch list r scratch′ list′ → r .refusal ≡ 0 → length T < length P → Longer e P scratch list r scratch′ list′
   found-longer f z h =

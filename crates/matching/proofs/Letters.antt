@@ -236,3 +236,7 @@ looks-all count equal h = rw (le-ltb equal count h)
 
 pub looks-le : (count equal : ℕ) → equal ≤ count → looks count equal ≤ count
 looks-le count equal h = by-test (λ t. ltb equal count ≡ t → cond t (suc equal) equal ≤ count) (ltb equal count) (λ _ e. omega (arith, ltb-true equal count e)) (λ _ _. h) refl
+
+-- a comparing looks at one pair more than are equal at most
+pub looks-few : (count equal : ℕ) → looks count equal ≤ suc equal
+looks-few count equal = by-test (λ t. cond t (suc equal) equal ≤ suc equal) (ltb equal count) (λ _. omega arith) (λ _. omega arith)

@@ -7,4 +7,5 @@ pub mod Refusals
 pub mod Letters
 pub mod Machine
 pub mod Find
+pub mod Costs
 pub mod Progress
