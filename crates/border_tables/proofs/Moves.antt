@@ -11,8 +11,8 @@ use Rattle.matching.specs.Machine.{at, firstToLast}
 use Rattle.matching.specs.Find.{Engine}
 use Rattle.matching.proofs.CaseAnalysis.{at-same}
 use Rattle.matching.proofs.Occurrences.{Stands}
-use Rattle.matching.proofs.Letters.{Meets, reach-le, looks-le, looks-few}
-use Rattle.matching.proofs.Machine.{Moves}
+use Rattle.matching.proofs.Letters.{Meets, reach-le, reach-meets, reach-differs, looks-le, looks-few}
+use Rattle.matching.proofs.Machine.{Carries, Moves}
 use Rattle.matching.proofs.Costs.{Paid, Pays}
 use Rattle.matching.proofs.Progress.{Progress}
 use Rattle.tables.proofs.Tables.{Reads}
@@ -41,14 +41,19 @@ module _ (P T : List ℕ) (s r : ℕ) (r≤ : r ≤ length P) (meets : Meets P T
       let le : b ≤ r = kmpEntry-le P r in
       kmpEntry-rule P r r≤ .border (omega arith) i h ∙ meets (r - (b - 1) + i) (omega arith) ∙ at-same T (omega arith)
 
-  pub kmp-moves : 1 ≤ length P → Moves P T s (kmpMove P s r)
-  unfolding kmpMove
-  kmp-moves some =
-      record {
-        ahead = omega (arith, kmpEntry-le P r);
-        skips = kmp-safe;
-        hands = record { part = omega (arith, kmpEntry-le P r); meets = kmp-meets };
-      }
+-- so an engine may move by the rule from a window that is compared first to last, as far as it reaches
+pub kmp-moves : (P T : List ℕ) (s q : ℕ) → s + length P ≤ length T → Carries P T s q → Moves P T s (kmpMove P s (reach P T s q))
+unfolding kmpMove
+kmp-moves P T s q inside c =
+    let r : ℕ = reach P T s q in
+    let le : r ≤ length P = reach-le P T s q (omega (arith, c .part)) in
+    let meets = reach-meets P T s q (c .meets) in
+    let differs = reach-differs P T s q inside in
+    record {
+      ahead = omega (arith, kmpEntry-le P r);
+      skips = kmp-safe P T s r le meets differs;
+      hands = record { part = omega (arith, kmpEntry-le P r, c .part); meets = kmp-meets P T s r le meets differs };
+    }
 
 -- what a move by the rule pays, at k + 1 a position: since b[j] is below j, all that was spent up to k more than the letters that are equal
 pub kmp-paid : (k : ℕ) (P : List ℕ) (s r spent : ℕ) → spent ≤ r + k → Paid k spent s (kmpMove P s r)

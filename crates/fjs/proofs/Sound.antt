@@ -13,8 +13,8 @@ use Rattle.matching.specs.Letters.{equalOn, reach, looks}
 use Rattle.matching.specs.Machine.{firstToLast}
 use Rattle.matching.proofs.CaseAnalysis.{by-test, at-same}
 use Rattle.matching.proofs.Occurrences.{no-occurrence}
-use Rattle.matching.proofs.Letters.{pairs-take, reach-le, reach-meets, reach-differs, reach-reports, looks-le}
-use Rattle.matching.proofs.Machine.{Carries, Moves, Right, Sound, right-up}
+use Rattle.matching.proofs.Letters.{pairs-take, reach-le, reach-differs, reach-reports, looks-le}
+use Rattle.matching.proofs.Machine.{Carries, Right, Sound, right-up}
 use Rattle.letter_tables.specs.Moves.{sundayMove}
 use Rattle.border_tables.specs.Moves.{kmpMove}
 use Rattle.letter_tables.proofs.Moves.{sunday-moves}
@@ -70,13 +70,6 @@ module _ (P T : List ℕ) (s : ℕ) where
 
 -- ---- every window is right
 
-module _ (P T : List ℕ) (s q : ℕ) (inside : s + length P ≤ length T) (c : Carries P T s q) where
-  some : 1 ≤ length P
-  some = omega (arith, c .part)
-
-  by-kmp : Moves P T s (kmpMove P s (reach P T s q))
-  by-kmp = kmp-moves P T s (reach P T s q) (reach-le P T s q (omega (arith, c .part))) (reach-meets P T s q (c .meets)) (reach-differs P T s q inside) some
-
 right-none : (P T : List ℕ) (s : ℕ) → s + length P ≤ length T → Carries P T s 0 → Right P T s (window P T s 0)
 right-none P T s inside c =
     let some : 1 ≤ length P = c .part in
@@ -88,7 +81,7 @@ right-none P T s inside c =
     (record {
       reports = reach-reports P T s 0 inside some (c .meets);
       few = omega (arith, looks-le (length P - 1) (min (length P - 1) (reach P T s 0)) (omega arith));
-      moves = by-kmp P T s 0 inside c;
+      moves = kmp-moves P T s 0 inside c;
     }))
     (λ e.
     rw (window-end P T s (eqb-false p t e))
@@ -99,4 +92,4 @@ sound P T h = record { some = h; right = right }
   where
     right : (s q : ℕ) → s + length P ≤ length T → Carries P T s q → Right P T s (window P T s q)
     right s zero inside c = right-none P T s inside c
-    right s (suc q) inside c = rw (window-carried P T s (suc q) (omega arith)) (right-up inside (by-kmp P T s (suc q) inside c) c)
+    right s (suc q) inside c = rw (window-carried P T s (suc q) (omega arith)) (right-up inside (kmp-moves P T s (suc q) inside c) c)
