@@ -19,7 +19,8 @@ extern "C" {
 #define LIBRETTO_PHRASE_MAX 1024
 #define LIBRETTO_TEXT_MAX 32768
 
-/* The engines. All give one list; each gives the count of its own letter comparisons. */
+/* The engines. All give one list; each gives the count of its own letter comparisons. For a phrase of m letters in a text of n, m at most n, KMP makes
+ * at most 2n - m of them, and FJS at most 3n - 2m. */
 enum libretto_method {
     LIBRETTO_NAIVE = 0,
     LIBRETTO_KMP = 1,

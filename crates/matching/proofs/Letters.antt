@@ -82,6 +82,18 @@ pub reach-differs : (P T : List ℕ) (s q : ℕ) → s + length P ≤ length T �
 unfolding equalOn
 reach-differs P T s q h k e = pairs-differ (drop q P) (drop (s + q) T) (omega (arith, length-drop q P)) (omega (arith, length-drop (s + q) T)) (simp getD-drop (e ∙ at-same T (omega arith)))
 
+-- so it is the k letters that are equal, where the one after them is not, from any letter on up to there
+pub reach-is : (P T : List ℕ) (s q k : ℕ) → s + length P ≤ length T → Meets P T s k → q ≤ k → k < length P → (getD P k 0 ≡ getD T (s + k) 0 → ⊥) → reach P T s q ≡ k
+unfolding Meets
+reach-is P T s q k inside meets h l differs =
+    let r : ℕ = reach P T s q in
+    by-test (λ _. r ≡ k) (ltb r k)
+    (λ e. absurd (reach-differs P T s q inside (omega (arith, ltb-true r k e)) (meets r (ltb-true r k e))))
+    (λ e.
+    by-test (λ _. r ≡ k) (ltb k r)
+    (λ f. absurd (differs (reach-meets P T s q (λ i j. meets i (omega arith)) k (ltb-true k r f))))
+    (λ f. omega (arith, ltb-false r k e, ltb-false k r f)))
+
 -- one pair at a time: it is equal, it is not, and there is none, for want of a letter of the pattern
 pub reach-equal : (P T : List ℕ) (s k : ℕ) → k < length P → s + k < length T → getD P k 0 ≡ getD T (s + k) 0 → reach P T s k ≡ reach P T s (k + 1)
 unfolding equalOn equalPairs

@@ -1,4 +1,4 @@
-// A program that executes the worked cases of document 01 that are not starred, and further tables; what it prints is held to the file `stdout`.
+// A program that executes the worked cases of document 01 that are not starred, those of document 02, and further tables; what it prints is held to the file `stdout`.
 // rust/tests/tests/vectors.rs builds that file again from the reference implementation, case by case; a new case here needs its line there and in `stdout`.
 // It depends on the crates whose functions it calls.
 // One line a case: what is asked, then numbers, one space before each. Every table is 9 throughout, and every list 9, before it is used.
@@ -174,6 +174,14 @@ fn engine(method: u32, enough: usize) {
     limit(method, 2, 32769);
 }
 
+// Request (xii) of document 02: m - 1 letters a and a b in n letters a take 2n - m comparisons by KMP, m from 2 to n; one letter takes n.
+fn kmp_bound() {
+    case(1, b"aaab", b"aaaaaaaa", 1281);
+    case(1, b"aaab", b"aaaa", 1281);
+    case(1, b"ab", b"aaaaaaaa", 1281);
+    case(1, b"b", b"aaaaaaaa", 1281);
+}
+
 fn main() {
     tables();
     letter_tables();
@@ -184,4 +192,5 @@ fn main() {
     engine(4, 260);
     engine(5, 256);
     case(6, b"aba", b"ababa", 1281);
+    kmp_bound();
 }

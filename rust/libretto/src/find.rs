@@ -9,7 +9,7 @@ use std::fmt;
 pub enum Method {
     /// Each start in turn, left to right.
     Naive = 0,
-    /// Knuth, Morris and Pratt: left to right, never going back in the text.
+    /// Knuth, Morris and Pratt: left to right, never going back in the text; at most 2n − m comparisons.
     Kmp = 1,
     /// Horspool: right to left, moving by the text letter under the phrase's end.
     Horspool = 2,

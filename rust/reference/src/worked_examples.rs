@@ -43,6 +43,18 @@ fn tables_of_abaaca() {
     }
 }
 
+/// Document 02, (xii), speaks of the steps for lengths beyond those of a find too.
+#[test]
+fn kmp_beyond_a_find() {
+    for m in [2, 1025, 3000] {
+        for n in [m, 32_769, 100_000] {
+            let (phrase, text) = ([vec![b'a'; m - 1], vec![b'b']].concat(), vec![b'a'; n]);
+            let run = kmp::run(&phrase, &text, &kmp::table(&phrase));
+            assert_eq!((run.places.len(), run.comparisons as usize), (0, 2 * n - m), "m = {m}, n = {n}");
+        }
+    }
+}
+
 #[test]
 fn double_window_entries_of_abaaca() {
     let entry = |u: u8, v: u8| double_window::entry(b"abaaca", u, Some(v));

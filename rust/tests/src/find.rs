@@ -43,8 +43,9 @@ pub fn compare(method: u32, phrase: &[u8], text: &[u8], scratch_len: usize, list
             // Told without the reference: a refused call leaves all as before.
             let untouched = memory.scratch.left() == dirty_scratch && memory.list.left() == dirty_list;
             faults.when(!untouched || raw.total != 0 || raw.comparisons != 0, "a refused call wrote something or gave numbers");
-        } else if method == 4 && phrase.len() <= text.len() {
-            faults.when(raw.comparisons as usize > 3 * text.len() - 2 * phrase.len(), "more than 3n - 2m comparisons");
+        } else if phrase.len() <= text.len() {
+            let passed = bound(method, phrase.len(), text.len()).is_some_and(|most| raw.comparisons as usize > most);
+            faults.when(passed, "more comparisons than the method's bound");
         }
         faults.judge(|| {
             format!(
@@ -58,6 +59,16 @@ pub fn compare(method: u32, phrase: &[u8], text: &[u8], scratch_len: usize, list
         });
         raw
     })
+}
+
+/// The most comparisons that a method may make for m letters in n, m at most n, where it has a bound: 3n − 2m for method 4 (demand 3), 2n − m for method
+/// 1 (document 02, (xii)).
+fn bound(method: u32, m: usize, n: usize) -> Option<usize> {
+    match method {
+        1 => Some(2 * n - m),
+        4 => Some(3 * n - 2 * m),
+        _ => None,
+    }
 }
 
 /// The scratch entries that a method needs (document 01's table, and document 02, (v), for method 5), and 300 for a number that is no method.

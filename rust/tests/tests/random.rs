@@ -1,5 +1,5 @@
-//! Random phrases and texts over alphabets of 1, 2, 4, 26 and 256 letters, by all methods. That method 4 makes at most 3n - 2m comparisons is tested in
-//! every compared call.
+//! Random phrases and texts over alphabets of 1, 2, 4, 26 and 256 letters, by all methods. That method 1 makes at most 2n - m comparisons and method 4 at
+//! most 3n - 2m is tested in every compared call.
 
 use libretto_tests::{compare, needed, report, Random};
 

@@ -70,12 +70,17 @@ fn engine(method: u32, enough: usize) -> String {
     lines.concat()
 }
 
+/// Request (xii) of document 02.
+fn kmp_bound() -> String {
+    [("aaab", "aaaaaaaa"), ("aaab", "aaaa"), ("ab", "aaaaaaaa"), ("b", "aaaaaaaa")].map(|(pattern, text)| case(1, pattern, text, ROOM)).concat()
+}
+
 #[test]
 fn the_expected_output() {
     let path = repository().join("crates/vectors/stdout");
     let held = fs::read_to_string(&path).unwrap_or_else(|error| panic!("{}: {error}", path.display()));
     let engines = [0, 4, 256, 256, 260, 256].into_iter().zip(0..).map(|(enough, method)| engine(method, enough));
-    let due = [tables(), engines.collect(), case(6, "aba", "ababa", ROOM)].concat();
+    let due = [tables(), engines.collect(), case(6, "aba", "ababa", ROOM), kmp_bound()].concat();
 
     let (mut held_lines, mut due_lines) = (held.lines(), due.lines());
     for number in 1.. {

@@ -56,7 +56,7 @@ same-length-4 c = search needs
 
 returns-2 : tie.Need-returns-2
 unfolding engineOf
-returns-2 c = by-engine 1 (c .before .before .before .before .before .before .before .match .keys2) (omega arith) (c .before .before .before .before .find2 .ensures)
+returns-2 c = by-engine 1 (c .before .before .before .before .before .before .before .match .keys2) (omega arith) (c .before .before .before .before .find2 .ensures .0)
 
 same-length-5 : tie.Need-same-length-5
 same-length-5 c = search needs

@@ -1,5 +1,5 @@
 -- `kmp::find` meets its contract. The loop's invariant is the run's progress (`matching`), with the table by its rule (`border_tables`); the inner loop reaches as far from
--- letter k + 1 on as from the first letter that is not carried. Assumes nothing.
+-- letter k + 1 on as from the first letter that is not carried. The bound is that of the steps (proofs/Bound.antt). Assumes nothing.
 use borrow.Author.Needs.{needs}
 use mathlib.Core.Path.{_≡_, refl, sym, ap, _∙_}
 use mathlib.Core.Logic.{⊎-elim}
@@ -11,7 +11,7 @@ use Rattle.matching.specs.Letters.{reach}
 use Rattle.matching.specs.Machine.{State, at, firstToLast}
 use Rattle.matching.proofs.Letters.{reach-nothing, Upward, up-none, up-first, up-next, up-stops, up-ends}
 use Rattle.matching.proofs.Find.{found-refused}
-use Rattle.matching.proofs.Progress.{Accepted, accepted, Progress, begins, hit-up, miss-up, total-small, compared-small, same-list, past, keeps}
+use Rattle.matching.proofs.Progress.{Accepted, accepted, Progress, begins, hit-up, miss-up, total-small, compared-small, same-list, past, over-compared, keeps}
 use Rattle.tables.specs.Tables.{Entries}
 use Rattle.tables.proofs.Tables.{Filled, Reads}
 use Rattle.border_tables.specs.Kmp.{kmpEntry}
@@ -20,6 +20,7 @@ use Rattle.border_tables.proofs.Kmp.{kmpEntry-le, kmp-filled, kmp-reads}
 use Rattle.border_tables.proofs.Moves.{kmp-next, kmp-goes}
 use Rattle.kmp.specs.Kmp.{window, kmp}
 use Rattle.kmp.proofs.Sound.{sound}
+use Rattle.kmp.proofs.Bound.{bound}
 use Rattle.kmp.proofs.find.Statement.{statement}
 use Rattle.kmp.proofs.find.Tie as tie
 
@@ -117,7 +118,7 @@ refused-requires : tie.Need-refused-requires Inv-loop2 μ-loop2 Inv-loop μ-loop
 refused-requires c κs = omega arith
 
 returns : tie.Need-returns Inv-loop2 μ-loop2 Inv-loop μ-loop
-returns c = found-refused (c .before .refused .ensures) (c .if1 .taken)
+returns c = (found-refused (c .before .refused .ensures) (c .if1 .taken), λ h. omega arith)
 
 kmp-table-requires : tie.Need-kmp-table-requires Inv-loop2 μ-loop2 Inv-loop μ-loop
 kmp-table-requires c κs = tt
@@ -250,7 +251,11 @@ same-length-2 : tie.Need-same-length-2 Inv-loop2 μ-loop2 Inv-loop μ-loop
 same-length-2 c = same-list (c .before .loop .inv .0)
 
 returns-2 : tie.Need-returns-2 Inv-loop2 μ-loop2 Inv-loop μ-loop
-returns-2 c = let t = maker (c .before) in keeps (past (c .before .loop .inv .0) (c .loop-test .left)) (allowed (t .before .before) .none) (filled t .left)
+returns-2 c =
+    let l = c .before in
+    let g = allowed (maker l .before .before) in
+    let over = past (l .loop .inv .0) (c .loop-test .left) in
+    (keeps over (g .none) (filled (maker l) .left), λ h. omega (arith, over-compared over, bound (P l) (T l) (g .limits .some) h))
 
 pub find-spec : {M : Type 1} → statement M
 find-spec =
