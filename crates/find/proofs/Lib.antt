@@ -2,3 +2,4 @@
 pub mod Agree
 pub mod Demand3
 pub mod KmpBound
+pub mod Joined

@@ -1,13 +1,16 @@
--- Laws of folding: folding twice changes nothing, of a letter and of a text. Assumes nothing.
-use mathlib.Core.Path.{_≡_, refl, ap₂}
+-- Laws of folding: folding twice changes nothing, of a letter and of a text; and folding two joined texts is joining the folded ones. Assumes nothing.
+use mathlib.Core.Path.{_≡_, refl, sym, ap, ap₂, _∙_}
 use mathlib.Core.Logic.{_⊎_, inl, inr, ⊎-elim}
 use Prim.Native.Nat.{ℕ, _+_, _≤_}
 use native.Mathlib.Omega.{arith}
 use mathlib.Core.Bool.{true, false, cond, not, _&&_}
-use mathlib.Core.List.{List, [], _∷_, map}
+use mathlib.Core.List.{List, [], _∷_, _++_, map, map-append}
+use lib.ListN.{length, take, length-map}
 use lib.Dec.{eqb, leb}
 use borrow.Author.Tests.{le-leb, lt-leb, leb-true}
+use Rattle.matching.specs.Received.{received}
 use Rattle.matching.proofs.CaseAnalysis.{by-test, both, either}
+use Rattle.matching.proofs.Received.{received-whole}
 use Rattle.fold.specs.Fold.{capital, folded}
 
 -- where a capital lies: in one range or in the other
@@ -45,3 +48,20 @@ folded-twice c =
 pub text-twice : (text : List ℕ) → map folded (map folded text) ≡ map folded text
 text-twice [] = refl
 text-twice (c ∷ text) = ap₂ (λ (x : ℕ) (xs : List ℕ). x ∷ xs) (folded-twice c) (text-twice text)
+
+-- acts joined (document 02, (ix)), of the definition
+pub text-joined : (first second : List ℕ) → map folded (first ++ second) ≡ map folded first ++ map folded second
+text-joined first second = map-append folded first second
+
+-- what `letters` leaves at the front of a target that is long enough
+letters-left : (source target : List ℕ) {target′ : List ℕ} → length source ≤ length target → target′ ≡ received target (map folded source) → take (length source) target′ ≡ map folded source
+letters-left source target h is =
+    let size : length (map folded source) ≡ length source = length-map source folded in
+    ap (take (length source)) is ∙ ap (λ (n : ℕ). take n (received target (map folded source))) (sym size) ∙ received-whole target (map folded source) (omega arith)
+
+-- and of what three calls of `letters` leave, in targets that are long enough: that of the joined texts holds what those of the two hold, one after the other
+pub letters-joined : (first second target₁ target₂ target : List ℕ) {target₁′ target₂′ target′ : List ℕ} → target₁′ ≡ received target₁ (map folded first) → target₂′ ≡ received target₂ (map folded second)
+    → target′ ≡ received target (map folded (first ++ second)) → length first ≤ length target₁ → length second ≤ length target₂ → length (first ++ second) ≤ length target
+    → take (length (first ++ second)) target′ ≡ take (length first) target₁′ ++ take (length second) target₂′
+letters-joined first second target₁ target₂ target is₁ is₂ is room₁ room₂ room =
+    rw (letters-left (first ++ second) target room is, letters-left first target₁ room₁ is₁, letters-left second target₂ room₂ is₂) (text-joined first second)

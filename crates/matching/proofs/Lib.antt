@@ -1,6 +1,7 @@
 -- The laws of this crate that others cite.
 pub mod CaseAnalysis
 pub mod Occurrences
+pub mod Ranges
 pub mod Received
 pub mod Parts
 pub mod Refusals
@@ -9,3 +10,4 @@ pub mod Machine
 pub mod Find
 pub mod Costs
 pub mod Progress
+pub mod Joined

@@ -110,7 +110,7 @@ occurrences-few P T = few (suc (length T)) P T 0
 
 -- ---- the two laws
 
-from-sound : (c : ℕ) (P T : List ℕ) (k x : ℕ) → List·Memᴰ x (occursFrom c P T k) → (k ≤ x) × ((x < k + c) × (occursAt P T x ≡ true))
+pub from-sound : (c : ℕ) (P T : List ℕ) (k x : ℕ) → List·Memᴰ x (occursFrom c P T k) → (k ≤ x) × ((x < k + c) × (occursAt P T x ≡ true))
 unfolding occursFrom
 from-sound zero P T k x m = absurd (List·Memᴰ·not-nil m)
 from-sound (suc c) P T k x m =

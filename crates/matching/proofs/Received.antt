@@ -48,6 +48,9 @@ module _ {ℓ} {A : Type ℓ} where
   received-first (y ∷ list) (x ∷ values) = ap (take (suc (length values))) (received-cons y x list values) ∙ ap (λ (l : List A). x ∷ l) (received-first list values)
 
   -- a list long enough for all values has them at its front
+  pub received-whole : (list values : List A) → length values ≤ length list → take (length values) (received list values) ≡ values
+  received-whole list values h = received-first list values ∙ take-all (length list) values h
+
   pub received-front : (list values : List A) → length values ≤ length list → received list values ≡ values ++ drop (length values) list
   unfolding received
   received-front list values h = ap (λ (l : List A). l ++ drop (length values) list) (take-all (length list) values h)

@@ -121,6 +121,28 @@ pub fn find_raw(method: u32, phrase: &[u8], text: &[u8], scratch: &mut [u16], li
 /// }
 /// # Ok::<(), libretto::Refusal>(())
 /// ```
+///
+/// An editor who joins two acts compares lists: the places in the joined text are the first act's, then those that cross the seam, then the second
+/// act's moved up by the length of the first. Each list may come by a method of its own.
+///
+/// ```
+/// use libretto::{find_all, Method};
+/// let phrase = b"la la";
+/// let (first, second) = (&b"la la l"[..], &b"a la la"[..]);
+/// let joined = [first, second].concat();
+/// let seam = first.len() as u32;
+///
+/// let first = find_all(Method::Kmp, phrase, first)?;
+/// let second = find_all(Method::DoubleWindow, phrase, second)?;
+/// let joined = find_all(Method::Fjs, phrase, &joined)?;
+/// let crosses = |place: &u32| *place < seam && seam < place + phrase.len() as u32;
+/// let crossing: Vec<u32> = joined.iter().copied().filter(crosses).collect();
+/// let moved: Vec<u32> = second.iter().map(|place| place + seam).collect();
+///
+/// assert_eq!(crossing, [3, 6]);
+/// assert_eq!(joined, [first, crossing, moved].concat());
+/// # Ok::<(), libretto::Refusal>(())
+/// ```
 pub fn find_all(method: Method, phrase: &[u8], text: &[u8]) -> Result<Vec<u32>, Refusal> {
     // What is longer than the limits is refused, so no more than the limits need is allocated.
     let m = phrase.len().min(PHRASE_MAX);
