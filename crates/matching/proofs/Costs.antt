@@ -15,7 +15,7 @@ use Rattle.matching.proofs.Machine.{Carries, Carried, carries-none, Sou
 
 -- ---- a bound
 
--- what was spent at s is paid by the state that follows: k + 1 for each position passed, and 1 for each letter carried on. A stop pays nothing
+-- what was spent at s is paid by the state that follows: k + 1 for each position passed, and 1 for each letter carried on. After a stop nothing is asked, since no window follows
 abbrev pub Paid : ℕ → ℕ → ℕ → State → Type 0
 Paid k spent s stop = Unit {0}
 Paid k spent s (at s′ q′) = spent + suc k * s ≤ suc k * s′ + q′
@@ -26,7 +26,7 @@ pub record Pays (k : ℕ) (P : List ℕ) (s q : ℕ) (v : Window) : Type 0 where
   pub paid : Paid k (v .compared + q) s (v .next)
 
 module _ {w : Steps} {P T : List ℕ} (sound : Sound w P T) (k : ℕ) (pays : (s q : ℕ) → s + length P ≤ length T → Carries P T s q → Pays k P s q (w P T s q)) where
-  -- the comparisons from a state on: k + 1 for each position left, less those of the last m, and less one for each letter carried
+  -- the comparisons from a state on: at most k + 1 for each position left, less k for each letter of the pattern and 1 for each letter carried
   abbrev Costs : ℕ → State → Type 0
   Costs more stop = more ≡ 0
   Costs more (at s q) = s + length P ≤ length T → more + suc k * s + q + k * length P ≤ suc k * length T

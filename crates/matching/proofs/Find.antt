@@ -86,14 +86,17 @@ module _ {e : Engine} {P T scratch list : List ℕ} where
     pub found-left : scratch′ ≡ received scratch (e .tables P)
     found-left = f .left ∙ rw on
 
+  -- what `Found` says of a refused find's answer
+  refused-answer : {r : Finding} {scratch′ list′ : List ℕ} → Found e P T scratch list r scratch′ list′ → eqb (refusalOf e P T scratch) 0 ≡ false
+      → r ≡ record { refusal = refusalOf e P T scratch; total = 0; comparisons = 0 }
+  refused-answer f off = f .answer ∙ rw off
+
   -- a find that returns no refusal met none
   pub found-none : {r : Finding} {scratch′ list′ : List ℕ} → Found e P T scratch list r scratch′ list′ → r .refusal ≡ 0 → refusalOf e P T scratch ≡ 0
   found-none {r} f z =
       by-test (λ _. refusalOf e P T scratch ≡ 0) (eqb (refusalOf e P T scratch) 0)
       (λ t. eqb-true (refusalOf e P T scratch) 0 t)
-      (λ t.
-      let is : r ≡ record { refusal = refusalOf e P T scratch; total = 0; comparisons = 0 } = f .answer ∙ rw t in
-      sym (ap (λ (x : Finding). x .refusal) is) ∙ z)
+      (λ t. sym (ap (λ (x : Finding). x .refusal) (refused-answer f t)) ∙ z)
 
   -- the comparisons of a find: those of the engine's steps where it is not refused, and otherwise none. So a bound on the steps of every pattern that a find takes bounds them
   module _ {r : Finding} {scratch′ list′ : List ℕ} (f : Found e P T scratch list r scratch′ list′) where
@@ -106,9 +109,7 @@ module _ {e : Engine} {P T scratch list : List ℕ} where
         (λ t.
         let none = eqb-true (refusalOf e P T scratch) 0 t in
         omega (arith, ap (λ (x : Finding). x .comparisons) (found-answer f none), bound (within (length P) (length T) (length scratch) _ none .some)))
-        (λ t.
-        let is : r ≡ record { refusal = refusalOf e P T scratch; total = 0; comparisons = 0 } = f .answer ∙ rw t in
-        omega (arith, ap (λ (x : Finding). x .comparisons) is))
+        (λ t. omega (arith, ap (λ (x : Finding). x .comparisons) (refused-answer f t)))
 
   -- a find of a pattern longer than the text that is not refused
   pub found-longer : {r : Finding} {scratch′ list′ : List ℕ} → Found e P T scratch list r scratch′ list′ → r .refusal ≡ 0 → length T < length P → Longer e P scratch list r scratch′ list′

@@ -1,4 +1,4 @@
-// A program that executes the worked cases of document 01 that are not starred, those of document 02, and further tables; what it prints is held to the file `stdout`.
+// A program that executes the worked cases of document 01 that are not starred, cases of document 02, and further tables; what it prints is held to the file `stdout`.
 // rust/tests/tests/vectors.rs builds that file again from the reference implementation, case by case; a new case here needs its line there and in `stdout`.
 // It depends on the crates whose functions it calls.
 // One line a case: what is asked, then numbers, one space before each. Every table is 9 throughout, and every list 9, before it is used.
