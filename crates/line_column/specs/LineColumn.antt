@@ -4,7 +4,7 @@ use Prim.Native.Nat.{ℕ, zero, suc, _+_, _-_, min}
 use mathlib.Core.Bool.{Bool, cond}
 use mathlib.Core.List.{List}
 use lib.ListN.{length, getD}
-use lib.Dec.{eqb}
+use lib.Dec.{eqb, ltb}
 use Rattle.line_column.specs.declared.LineColumn.{LineColumn}
 
 -- whether the byte at a place ends a line
@@ -27,3 +27,11 @@ lineStart text (suc k) = cond (endsLine text k) (suc k) (lineStart text k)
 unfoldable pub lineColumn : List ℕ → ℕ → LineColumn
 unfolding endsBefore lineStart
 lineColumn text place = record { line = endsBefore text (min place (length text)) + 1; column = min place (length text) - lineStart text (min place (length text)) + 1 }
+
+-- the same for who knows a line of another place: where that is not past this one, the lines that end between the two are added to it
+unfoldable pub lineColumnFrom : List ℕ → ℕ → ℕ → ℕ → LineColumn
+unfolding endsBefore lineColumn
+lineColumnFrom text known line place =
+    cond (ltb (min place (length text)) known)
+    (lineColumn text place)
+    (record { line = endsBefore text (min place (length text)) - endsBefore text known + line; column = lineColumn text place .column })

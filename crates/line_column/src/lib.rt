@@ -3,7 +3,7 @@
 ghost use mathlib.Core.Path.{_≡_};
 ghost use Prim.Native.Nat.{_+_, _-_, _≤_};
 ghost use lib.ListN.{length};
-ghost use Rattle.line_column.specs.LineColumn.{endsBefore, lineStart, lineColumn};
+ghost use Rattle.line_column.specs.LineColumn.{endsBefore, lineStart, lineColumnFrom};
 
 // A line and a column, both from 1.
 pub struct LineColumn {
@@ -27,13 +27,13 @@ fn count_block(text: &[u8], start: usize, stop: usize) -> u8
     count
 }
 
-// How many of the first `end` bytes end a line, block by block.
-fn count_breaks(text: &[u8], end: usize) -> usize
-    requires { ⌜ end ≤ length (now text) ⌝ }
-    ensures { λ r. ⌜ r ≡ endsBefore (now (text .entry)) end ⌝ }
+// How many of the bytes from `start` up to `end` end a line, block by block.
+fn count_breaks(text: &[u8], start: usize, end: usize) -> usize
+    requires { ⌜ (start ≤ end) × (end ≤ length (now text)) ⌝ }
+    ensures { λ r. ⌜ endsBefore (now (text .entry)) end ≡ endsBefore (now (text .entry)) start + r ⌝ }
 {
     let mut count = 0;
-    let mut i = 0;
+    let mut i = start;
     while 240 <= end - i {
         count += count_block(text, i, i + 240) as usize;
         i += 240;
@@ -56,15 +56,22 @@ fn count_back(text: &[u8], end: usize) -> usize
     end - start
 }
 
-// The line and the column of a place; a place past the text's end has those of the end.
-pub fn line_column(text: &[u8], place: usize) -> LineColumn
-    ensures { λ r. ⌜ r ≡ lineColumn (now (text .entry)) place ⌝ }
+// The line and the column of a place; a place past the text's end has those of the end. The line of another place is known: where that is not past this one, the bytes between the two are
+// all that is counted.
+pub fn line_column(text: &[u8], place: usize, known: usize, line: u32) -> LineColumn
+    ensures { λ r. ⌜ r ≡ lineColumnFrom (now (text .entry)) known line place ⌝ }
 {
     let mut end = place;
     if text.len() < place {
         end = text.len();
     }
-    let line = count_breaks(text, end) + 1;
+    let mut start = known;
+    let mut first = line as usize;
+    if end < known {
+        start = 0;
+        first = 1;
+    }
+    let line = count_breaks(text, start, end) + first;
     let column = count_back(text, end) + 1;
     LineColumn { line, column }
 }

@@ -63,17 +63,25 @@ fn find_cue(
     fjs::nth(&phrase[..m], copy, scratch, ordinal)
 }
 
-// Puts a cue's three entries: place, line, column.
-fn put_entries(entries: &mut [u32], at: usize, text: &[u8], place: u32)
-    requires { ⌜ (at ≤ 3000) × (length (now text) ≤ 32768) ⌝ }
-    ensures { λ _. ⌜ now (entries .exit) ≡ set (set (set (now (entries .entry)) at place) (at + 1) (lineColumn (now (text .entry)) place .line)) (at + 2) (lineColumn (now (text .entry)) place .column) ⌝ }
+// Puts a cue's three entries: place, line, column. The line is counted on from a place whose line is known, and is given back for the next cue.
+fn put_entries(
+    entries: &mut [u32],
+    at: usize,
+    text: &[u8],
+    place: u32,
+    known: u32,
+    line: u32,
+) -> u32
+    requires { ⌜ (at ≤ 3000) × ((length (now text) ≤ 32768) × (line ≡ lineColumn (now text) known .line)) ⌝ }
+    ensures { λ r. ⌜ (r ≡ lineColumn (now (text .entry)) place .line) × (now (entries .exit) ≡ set (set (set (now (entries .entry)) at place) (at + 1) (lineColumn (now (text .entry)) place .line)) (at + 2) (lineColumn (now (text .entry)) place .column)) ⌝ }
 {
-    let spot = line_column::line_column(text, place as usize);
+    let spot = line_column::line_column(text, place as usize, known as usize, line);
     let line = spot.line as u32;
     let column = spot.column as u32;
     matching::store(entries, at, place);
     matching::store(entries, at + 1, line);
     matching::store(entries, at + 2, column);
+    line
 }
 
 // Resolves cue by cue, reading the book's cues once more, up to the first one whose occurrence does not exist.
@@ -92,6 +100,8 @@ fn resolve_cues(
     let mut index = 0;
     let mut at = 0;
     let mut place = 0;
+    let mut known = 0;
+    let mut line = 1;
     while index < cues {
         let cue = cues::read_cue(book, place);
         let CueAnswer::Cue {
@@ -115,7 +125,8 @@ fn resolve_cues(
                 number: index,
             };
         };
-        put_entries(entries, at, text, position);
+        line = put_entries(entries, at, text, position, known, line);
+        known = position;
         index += 1;
         at += 3;
         place = end;

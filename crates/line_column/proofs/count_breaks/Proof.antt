@@ -1,6 +1,6 @@
--- `line_column::count_breaks` meets its contract. The loop's invariant: the line ends among the first i bytes are counted. Assumes nothing.
+-- `line_column::count_breaks` meets its contract. The loop's invariant: the line ends from `start` up to i are counted. Assumes nothing.
 use borrow.Author.Needs.{needs}
-use mathlib.Core.Path.{_≡_, refl}
+use mathlib.Core.Path.{_≡_}
 use Prim.Native.Nat.{_+_, _-_, _≤_}
 use native.Mathlib.Omega.{arith}
 use Rattle.line_column.specs.LineColumn.{endsBefore}
@@ -9,13 +9,14 @@ use Rattle.line_column.proofs.count_breaks.Statement.{statement}
 use Rattle.line_column.proofs.count_breaks.Tie as tie
 
 abbrev Inv-loop : tie.InvT-loop
-Inv-loop text end count₀ i₀ count i = (count ≡ endsBefore text i) × (i ≤ end)
+Inv-loop text start end count₀ i₀ count i = (endsBefore text i ≡ endsBefore text start + count) × ((start ≤ i) × (i ≤ end))
 
 abbrev μ-loop : tie.MeasureT-loop
-μ-loop text end count₀ i₀ count i = end - i
+μ-loop text start end count₀ i₀ count i = end - i
 
 -- one block more
-counted : (c : tie.After-count-block Inv-loop μ-loop) → let l = c .before .before in l .loop .count + c .count-block .result ≡ endsBefore (l .before .before .args .text .now) (l .loop .i + 240)
+counted : (c : tie.After-count-block Inv-loop μ-loop) → let l = c .before .before in let a = l .before .before .args in
+    endsBefore (a .text .now) (l .loop .i + 240) ≡ endsBefore (a .text .now) (a .start) + (l .loop .count + c .count-block .result)
 counted c =
     let l = c .before .before in
     let text = l .before .before .args .text .now in
@@ -23,16 +24,16 @@ counted c =
     omega (arith, more, l .loop .inv .0)
 
 -- the last, shorter one
-ended : (c : tie.After-count-block2 Inv-loop μ-loop) → let l = c .before .before in l .loop .count + c .count-block2 .result ≡ endsBefore (l .before .before .args .text .now) (l .before .before .args .end)
+ended : (c : tie.After-count-block2 Inv-loop μ-loop) → let l = c .before .before in let a = l .before .before .args in
+    endsBefore (a .text .now) (a .end) ≡ endsBefore (a .text .now) (a .start) + (l .loop .count + c .count-block2 .result)
 ended c =
     let l = c .before .before in
-    let text = l .before .before .args .text .now in
-    let more : endsBefore text (l .before .before .args .end) ≡ endsBefore text (l .loop .i) + c .count-block2 .result = c .count-block2 .ensures in
+    let a = l .before .before .args in
+    let more : endsBefore (a .text .now) (a .end) ≡ endsBefore (a .text .now) (l .loop .i) + c .count-block2 .result = c .count-block2 .ensures in
     omega (arith, more, l .loop .inv .0)
 
 loop-holds : tie.Need-loop-holds Inv-loop μ-loop
-unfolding endsBefore
-loop-holds c = (refl, omega arith)
+loop-holds c = (omega arith, (omega arith, c .before .pre .0))
 
 sub-loop : tie.Need-sub-loop Inv-loop μ-loop
 sub-loop c = omega arith
@@ -41,7 +42,7 @@ add-count-block : tie.Need-add-count-block Inv-loop μ-loop
 add-count-block c = omega (arith, c .before .before .before .fits .end)
 
 count-block-requires : tie.Need-count-block-requires Inv-loop μ-loop
-count-block-requires c κs = (omega arith, (omega arith, omega (arith, c .before .before .before .pre)))
+count-block-requires c κs = (omega arith, (omega arith, omega (arith, c .before .before .before .pre .1)))
 
 cast-count : tie.Need-cast-count Inv-loop μ-loop
 cast-count c = search needs
@@ -56,16 +57,16 @@ loop-less : tie.Need-loop-less Inv-loop μ-loop
 loop-less c = omega arith
 
 loop-again : tie.Need-loop-again Inv-loop μ-loop
-loop-again c = (counted c, omega arith)
+loop-again c = (counted c, (omega arith, omega arith))
 
 count-block-requires-2 : tie.Need-count-block-requires-2 Inv-loop μ-loop
-count-block-requires-2 c κs = (omega arith, (omega arith, c .before .before .before .pre))
+count-block-requires-2 c κs = (omega arith, (omega arith, c .before .before .before .pre .1))
 
 cast-result : tie.Need-cast-result Inv-loop μ-loop
 cast-result c = search needs
 
 add-result : tie.Need-add-result Inv-loop μ-loop
-add-result c = let s = c .before .before .before .before in let a = s .args in omega (arith, ended c, ends-few (a .text .now) (a .end), s .pre, s .fits .end)
+add-result c = let s = c .before .before .before .before in let a = s .args in omega (arith, ended c, ends-few (a .text .now) (a .end), s .pre .1, s .fits .end)
 
 returns : tie.Need-returns Inv-loop μ-loop
 returns c = ended c

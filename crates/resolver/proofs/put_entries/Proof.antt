@@ -1,4 +1,4 @@
--- `resolver::put_entries` meets its contract: three entries, one after another. Assumes nothing.
+-- `resolver::put_entries` meets its contract: three entries, one after another, and the line that was counted on is the place's. Assumes nothing.
 use borrow.Author.Needs.{needs}
 use mathlib.Core.Path.{_≡_, ap, ap₂, _∙_}
 use mathlib.Core.List.{List}
@@ -7,26 +7,28 @@ use native.Mathlib.Omega.{arith}
 use lib.ListN.{set}
 use Rattle.line_column.specs.declared.LineColumn.{LineColumn}
 use Rattle.line_column.specs.LineColumn.{lineColumn}
-use Rattle.line_column.proofs.Lines.{line-small, column-small}
+use Rattle.line_column.proofs.Lines.{line-known, line-small, column-small}
 use Rattle.resolver.proofs.put_entries.Statement.{statement}
 use Rattle.resolver.proofs.put_entries.Tie as tie
 
 line-column-requires : tie.Need-line-column-requires
 line-column-requires c κs = search needs
 
+-- the line and the column of the place
+spot : (k : tie.After-line-column) → let a = k .before .before .before .args in k .line-column .result ≡ lineColumn (a .text .now) (a .place)
+spot k = let s = k .before .before .before in k .line-column .ensures ∙ line-known (s .args .text .now) (s .args .known) (s .args .line) (s .args .place) (s .pre .1 .1)
+
 cast-line : tie.Need-cast-line
 cast-line c =
     let k = c .before in
-    let a = k .before .before .before .args in
-    let is : k .line-column .result ≡ lineColumn (a .text .now) (a .place) = k .line-column .ensures in
-    omega (arith, ap (λ (x : LineColumn). x .line) is, line-small (a .text .now) (a .place), k .before .before .before .pre .1)
+    let s = k .before .before .before in
+    omega (arith, ap (λ (x : LineColumn). x .line) (spot k), line-small (s .args .text .now) (s .args .place), s .pre .1 .0)
 
 cast-column : tie.Need-cast-column
 cast-column c =
     let k = c .before .before in
-    let a = k .before .before .before .args in
-    let is : k .line-column .result ≡ lineColumn (a .text .now) (a .place) = k .line-column .ensures in
-    omega (arith, ap (λ (x : LineColumn). x .column) is, column-small (a .text .now) (a .place), k .before .before .before .pre .1)
+    let s = k .before .before .before in
+    omega (arith, ap (λ (x : LineColumn). x .column) (spot k), column-small (s .args .text .now) (s .args .place), s .pre .1 .0)
 
 store-requires : tie.Need-store-requires
 store-requires c κs = search needs
@@ -53,11 +55,13 @@ returns c =
     let first = second .before .before .before .before in
     let k = first .before .before .before .before in
     let a = k .before .before .before .args in
-    let is : k .line-column .result ≡ lineColumn (a .text .now) (a .place) = k .line-column .ensures in
-    third .store3 .ensures
-    ∙ ap₂ (λ (l : List ℕ) (v : ℕ). set l (a .at + 2) v)
-    (second .store2 .ensures ∙ ap₂ (λ (l : List ℕ) (v : ℕ). set l (a .at + 1) v) (first .store .ensures) (ap (λ (x : LineColumn). x .line) is))
-    (ap (λ (x : LineColumn). x .column) is)
+    let line = ap (λ (x : LineColumn). x .line) (spot k) in (
+      line,
+      third .store3 .ensures
+          ∙ ap₂ (λ (l : List ℕ) (v : ℕ). set l (a .at + 2) v)
+          (second .store2 .ensures ∙ ap₂ (λ (l : List ℕ) (v : ℕ). set l (a .at + 1) v) (first .store .ensures) line)
+          (ap (λ (x : LineColumn). x .column) (spot k)),
+    )
 
 pub put-entries-spec : {M : Type 1} → statement M
 put-entries-spec =

@@ -1,7 +1,7 @@
 -- `resolver::resolve_cues` meets its contract. The loop's invariant: the entries of the cues so far are put, and they and what the rest resolves to are the whole (`Along`); phrase buffer and
--- scratch keep their lengths. Assumes nothing.
+-- scratch keep their lengths, and the known line is that of the known place. Assumes nothing.
 use borrow.Author.Needs.{needs}
-use mathlib.Core.Path.{_≡_, refl, ap, ap₂, _∙_}
+use mathlib.Core.Path.{_≡_, refl, sym, ap, ap₂, _∙_}
 use mathlib.Core.List.{List, map}
 use Prim.Native.Nat.{ℕ, _-_, _≤_}
 use native.Mathlib.Omega.{arith}
@@ -15,17 +15,19 @@ use Rattle.cue_fields.specs.Field.{part}
 use Rattle.cues.specs.Cue.{Cue, cueWith}
 use Rattle.cues.proofs.Cues.{CueAt, cue-at, cue-refused-some, phrase-inside}
 use Rattle.cue_book.specs.Reading.{readBook, cuesIn}
+use Rattle.line_column.specs.LineColumn.{lineColumn}
+use Rattle.line_column.proofs.Lines.{line-first}
 use Rattle.outcome.specs.Outcome.{cueOccurrences, entriesOf}
 use Rattle.resolver.proofs.Walking.{found-there, found-not, Along, along-first, Next, along-cue, along-end, along-missing, along-next, along-put, placed}
 use Rattle.resolver.proofs.resolve_cues.Statement.{statement}
 use Rattle.resolver.proofs.resolve_cues.Tie as tie
 
 abbrev Inv-loop : tie.InvT-loop
-Inv-loop book count text copy phrase₀ scratch₀ entries₀ index₀ at₀ place₀ phrase scratch entries index at place =
-    Along book text (cuesIn (readBook book)) entries₀ index at place entries × ((length phrase ≡ length phrase₀) × (length scratch ≡ length scratch₀))
+Inv-loop book count text copy phrase₀ scratch₀ entries₀ index₀ at₀ place₀ known₀ line₀ phrase scratch entries index at place known line =
+    Along book text (cuesIn (readBook book)) entries₀ index at place entries × ((length phrase ≡ length phrase₀) × ((length scratch ≡ length scratch₀) × (line ≡ lineColumn text known .line)))
 
 abbrev μ-loop : tie.MeasureT-loop
-μ-loop book count text copy phrase₀ scratch₀ entries₀ index₀ at₀ place₀ phrase scratch entries index at place =
+μ-loop book count text copy phrase₀ scratch₀ entries₀ index₀ at₀ place₀ known₀ line₀ phrase scratch entries index at place known line =
     count - index
 
 -- the places of this proof: where the call came in, the loop's turn, the cue that was read in it, the occurrence that was looked for, and the entries that were put
@@ -91,7 +93,7 @@ found f =
     ∙ ap (λ (T : List ℕ). nthOf (occurrences (map folded (c .phrase)) T) (c .ordinal)) (s .pre .copied)
 
 loop-holds : tie.Need-loop-holds Inv-loop μ-loop
-loop-holds c = let s = c .before .before .before .before .before .before in let a = s .args in (along-first (a .book .now) (a .text .now) (cuesIn (readBook (a .book .now))) (a .entries .now) (s .pre .read), (refl, refl))
+loop-holds c = let s = c .before .before .before .before .before .before in let a = s .args in (along-first (a .book .now) (a .text .now) (cuesIn (readBook (a .book .now))) (a .entries .now) (s .pre .read), (refl, (refl, sym (line-first (a .text .now)))))
 
 read-cue-requires : tie.Need-read-cue-requires Inv-loop μ-loop
 read-cue-requires c κs = search needs
@@ -106,7 +108,7 @@ same-length : tie.Need-same-length Inv-loop μ-loop
 same-length c = c .before .before .before .before .loop .inv .1 .0
 
 same-length-2 : tie.Need-same-length-2 Inv-loop μ-loop
-same-length-2 c = c .before .before .before .before .loop .inv .1 .1
+same-length-2 c = c .before .before .before .before .loop .inv .1 .1 .0
 
 same-length-3 : tie.Need-same-length-3 Inv-loop μ-loop
 same-length-3 c = kept (c .before .before .before .before)
@@ -133,7 +135,7 @@ find-cue-requires c κs =
     let some : 1 ≤ length (letters k) = omega (arith, size k, i .some) in
     let short : length (letters k) ≤ 1024 = omega (arith, size k, i .short) in
     let buffer : 1024 ≤ length (l .loop .phrase) = omega (arith, l .loop .inv .1 .0, s .pre .buffer) in
-    let tables : 1281 ≤ length (l .loop .scratch) = omega (arith, l .loop .inv .1 .1, s .pre .tables) in
+    let tables : 1281 ≤ length (l .loop .scratch) = omega (arith, l .loop .inv .1 .1 .0, s .pre .tables) in
     ((some, short), (omega (arith, ap length (s .pre .copied), length-map (s .args .text .now) folded, s .pre .small), (buffer, tables)))
 
 enum-known-found : tie.Need-enum-known-found Inv-loop μ-loop
@@ -143,7 +145,7 @@ same-length-4 : tie.Need-same-length-4 Inv-loop μ-loop
 same-length-4 c = let f = c .before .before .before .before .before in f .find-cue .kept .1 .1 .1 .0 ∙ turn (cue-read f) .loop .inv .1 .0
 
 same-length-5 : tie.Need-same-length-5 Inv-loop μ-loop
-same-length-5 c = let f = c .before .before .before .before .before in f .find-cue .kept .1 .1 .1 .1 .0 ∙ turn (cue-read f) .loop .inv .1 .1
+same-length-5 c = let f = c .before .before .before .before .before in f .find-cue .kept .1 .1 .1 .1 .0 ∙ turn (cue-read f) .loop .inv .1 .1 .0
 
 same-length-6 : tie.Need-same-length-6 Inv-loop μ-loop
 same-length-6 c = kept (turn (cue-read (c .before .before .before .before .before)))
@@ -160,7 +162,7 @@ put-entries-requires : tie.Need-put-entries-requires Inv-loop μ-loop
 put-entries-requires c κs =
     let l = turn (cue-read (looked (c .before))) in
     let d = l .loop .inv .0 in
-    (omega (arith, d .three, d .left .count), start l .pre .small)
+    (omega (arith, d .three, d .left .count), (start l .pre .small, l .loop .inv .1 .1 .1))
 
 add-index : tie.Need-add-index Inv-loop μ-loop
 add-index c = omega (arith, entries-put (c .before .before) .loop .inv .0 .left .count)
@@ -180,14 +182,16 @@ loop-again c =
     let l = turn k in
     let n = next (k .before .before .before .before) in
     let d = l .loop .inv .0 in
-    let there = found-there _ _ (found f) (t .before .found .given .1) in
-    (along-next d n (there .0) (this k .end-is) (p .put-entries .ensures ∙ along-put d (n .cue) (there .1)), (f .find-cue .kept .1 .1 .1 .0 ∙ l .loop .inv .1 .0, f .find-cue .kept .1 .1 .1 .1 .0 ∙ l .loop .inv .1 .1))
+    let there = found-there _ _ (found f) (t .before .found .given .1) in (
+      along-next d n (there .0) (this k .end-is) (p .put-entries .ensures .1 ∙ along-put d (n .cue) (there .1)),
+      (f .find-cue .kept .1 .1 .1 .0 ∙ l .loop .inv .1 .0, (f .find-cue .kept .1 .1 .1 .1 .0 ∙ l .loop .inv .1 .1 .0, p .put-entries .ensures .0)),
+    )
 
 same-length-7 : tie.Need-same-length-7 Inv-loop μ-loop
 same-length-7 c = c .before .loop .inv .1 .0
 
 same-length-8 : tie.Need-same-length-8 Inv-loop μ-loop
-same-length-8 c = c .before .loop .inv .1 .1
+same-length-8 c = c .before .loop .inv .1 .1 .0
 
 same-length-9 : tie.Need-same-length-9 Inv-loop μ-loop
 same-length-9 c = kept (c .before)
