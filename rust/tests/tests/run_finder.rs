@@ -9,6 +9,7 @@ use std::io::Write;
 use std::os::unix::fs::{symlink, PermissionsExt};
 use std::path::{Path, PathBuf};
 use std::process::{Command, Output, Stdio};
+use std::sync::Mutex;
 
 const WAITING: &str = "run-finder: waiting for 'rt check finder', which proves and builds what has changed; all of it takes about two minutes\n";
 const NOT_RUN: &str = "run-finder: 'rt check finder' did not leave a checked finder, so none is run\n";
@@ -23,7 +24,12 @@ fn folder(test: &str) -> PathBuf {
     folder
 }
 
+/// A process that is started while a program is written has the program open for writing until it runs a program itself, and until then Linux runs
+/// the written one for nobody. So no process is started while a program is written.
+static WRITING: Mutex<()> = Mutex::new(());
+
 fn write_program(path: &Path, text: &str) {
+    let _none_starts = WRITING.lock();
     fs::create_dir_all(path.parent().expect("the program has a folder")).expect("the folder is made");
     fs::write(path, text).expect("the program is written");
     fs::set_permissions(path, fs::Permissions::from_mode(0o755)).expect("the program may be run");
@@ -36,7 +42,11 @@ fn run(script: &Path, from: &Path, input: &[u8], first_on_path: Option<&Path>) -
     let path: OsString = env::join_paths(path).expect("the path is joined");
     let mut command = Command::new(script);
     let command = command.current_dir(from).env("PATH", path).stdin(Stdio::piped()).stdout(Stdio::piped()).stderr(Stdio::piped());
-    let mut child = command.spawn().expect("the script starts");
+    let started = {
+        let _none_is_written = WRITING.lock();
+        command.spawn()
+    };
+    let mut child = started.expect("the script starts");
     child.stdin.take().expect("the pipe").write_all(input).expect("the input is short enough to wait in the pipe");
     child.wait_with_output().expect("the script ends")
 }
@@ -64,7 +74,8 @@ fn in_the_repository() {
 /// A copy of the script beside an `rt` of the test's own, and the folder of that `rt`.
 fn copy(test: &str, rt: &str) -> (PathBuf, PathBuf) {
     let root = folder(test);
-    fs::copy(repository().join("run-finder"), root.join("run-finder")).expect("the script is copied");
+    let script = fs::read_to_string(repository().join("run-finder")).expect("the script is read");
+    write_program(&root.join("run-finder"), &script);
     fs::write(root.join("crates.txt"), "finder:\n").expect("the list is written");
     write_program(&root.join("bin/rt"), &format!("#!/bin/sh\nset -e\n[ \"$*\" = 'check finder' ] && [ -f crates.txt ]\n{rt}\n"));
     let bin = root.join("bin");
