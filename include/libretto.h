@@ -156,8 +156,9 @@ libretto_answer libretto_write_cue(uint8_t *buffer, size_t buffer_len, const uin
 /* Finds the place of each cue of a book in the text: that of the occurrence which the cue's ordinal counts, from 1, of its folded phrase in the
  * folded text, overlapping ones included.
  *
- * It gives 0 and the number of cues. Each cue's three entries are then its place, counted from 0, its line, which is 1 plus the bytes 10 before the
- * place, and its column, which is 1 plus the bytes between the last byte 10 before the place, or the text's start, and the place. The copy's first
+ * It gives 0 and the number of cues. Each cue's three entries are then its place, counted from 0, its line and its column. A line ends at byte 10,
+ * at byte 13, or at the pair 13 10, which is one ending. The line is 1 plus the endings wholly before the place; the column is 1 plus the bytes
+ * between the last of them, or the text's start, and the place. At a place between the bytes of a pair the pair has not ended yet. The copy's first
  * text_len bytes are the folded text; phrase buffer and scratch are 0 throughout, however long they are; the copy's bytes and the entries past those
  * written keep their values. What the lent memory held before plays no part.
  *

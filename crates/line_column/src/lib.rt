@@ -1,9 +1,9 @@
-// The line rule (document 01, "Cue book, folding, lines"): which line of a text a place stands in, and at which column.
+// The line rule (document 02, (i)): which line of a text a place stands in, and at which column. A line ends at 10, at 13, or at the pair 13 10 taken as one ending.
 // It depends on `matching` for case analysis alone. The rule is one definition, `lineColumn`, and one function, so that another rule can take its place.
 ghost use mathlib.Core.Path.{_≡_};
-ghost use Prim.Native.Nat.{_+_, _-_, _≤_};
-ghost use lib.ListN.{length};
-ghost use Rattle.line_column.specs.LineColumn.{endsBefore, lineStart, lineColumnFrom};
+ghost use Prim.Native.Nat.{_+_, _-_, _≤_, _<_};
+ghost use lib.ListN.{length, getD};
+ghost use Rattle.line_column.specs.LineColumn.{endsLine, endsBefore, lineStart, lineColumnFrom};
 
 // A line and a column, both from 1.
 pub struct LineColumn {
@@ -11,15 +11,33 @@ pub struct LineColumn {
     pub column: usize,
 }
 
-// How many of the bytes from `start` up to `stop` end a line. They are at most 240, so that a byte holds the count and the compiler counts sixteen of them at a time.
+// Whether a line ends with the byte `here`, which `next` follows: at 10, and at 13 that is not the first byte of a pair 13 10.
+fn ends_line(here: u8, next: u8) -> bool
+    ensures { λ r. ⌜ r ≡ endsLine here next ⌝ }
+{
+    here == 10 || (here == 13 && next != 10)
+}
+
+// The byte at a place; 0 past the text's end, which makes no pair with a 13 before it.
+fn byte_at(text: &[u8], place: usize) -> u8
+    ensures { λ r. ⌜ r ≡ getD (now (text .entry)) place 0 ⌝ }
+{
+    if place < text.len() {
+        return text[place];
+    }
+    0
+}
+
+// How many of the bytes from `start` up to `stop` end a line. They are at most 192, so that a byte holds the count and the compiler counts sixteen of them at a time; the byte at `stop` is in
+// the text, so that each of them has one after it.
 fn count_block(text: &[u8], start: usize, stop: usize) -> u8
-    requires { ⌜ (start ≤ stop) × ((stop ≤ start + 240) × (stop ≤ length (now text))) ⌝ }
+    requires { ⌜ (start ≤ stop) × ((stop ≤ start + 192) × (stop < length (now text))) ⌝ }
     ensures { λ r. ⌜ endsBefore (now (text .entry)) stop ≡ endsBefore (now (text .entry)) start + r ⌝ }
 {
     let mut count = 0;
     let mut i = start;
     while i < stop {
-        if text[i] == 10 {
+        if ends_line(text[i], text[i + 1]) {
             count += 1;
         }
         i += 1;
@@ -27,18 +45,26 @@ fn count_block(text: &[u8], start: usize, stop: usize) -> u8
     count
 }
 
-// How many of the bytes from `start` up to `end` end a line, block by block.
+// How many of the bytes from `start` up to `end` end a line, block by block. The last of them is looked at by itself, since the text may end there.
 fn count_breaks(text: &[u8], start: usize, end: usize) -> usize
     requires { ⌜ (start ≤ end) × (end ≤ length (now text)) ⌝ }
     ensures { λ r. ⌜ endsBefore (now (text .entry)) end ≡ endsBefore (now (text .entry)) start + r ⌝ }
 {
+    if start == end {
+        return 0;
+    }
+    let last = end - 1;
     let mut count = 0;
     let mut i = start;
-    while 240 <= end - i {
-        count += count_block(text, i, i + 240) as usize;
-        i += 240;
+    while 192 <= last - i {
+        count += count_block(text, i, i + 192) as usize;
+        i += 192;
     }
-    count + count_block(text, i, end) as usize
+    count += count_block(text, i, last) as usize;
+    if ends_line(text[last], byte_at(text, end)) {
+        count += 1;
+    }
+    count
 }
 
 // How many bytes stand after the last line end among the first `end`: it looks back from there.
@@ -47,10 +73,13 @@ fn count_back(text: &[u8], end: usize) -> usize
     ensures { λ r. ⌜ r ≡ end - lineStart (now (text .entry)) end ⌝ }
 {
     let mut start = end;
+    let mut next = byte_at(text, end);
     while 0 < start {
-        if text[start - 1] == 10 {
+        let here = text[start - 1];
+        if ends_line(here, next) {
             break;
         }
+        next = here;
         start -= 1;
     }
     end - start

@@ -5,9 +5,9 @@ use mathlib.Core.Path.{_≡_, refl, sym, ap, _∙_}
 use Prim.Native.Nat.{ℕ, suc, _+_, _≤_}
 use native.Mathlib.Omega.{arith}
 use mathlib.Core.Logic.{inl, inr}
-use mathlib.Core.Bool.{true, cond, false≢true}
+use mathlib.Core.Bool.{false, cond, false≢true}
 use mathlib.Core.List.{List, [], _∷_, _++_, map}
-use lib.ListN.{length, getD, length-append, length-map, List·getD-map}
+use lib.ListN.{length, length-append}
 use lib.Dec.{eqb}
 use borrow.Author.Tests.{ne-eqb}
 use Rattle.matching.specs.Received.{received}
@@ -17,8 +17,8 @@ use Rattle.fold.proofs.Fold.{folded-twice}
 use Rattle.cues.specs.Cue.{Cue}
 use Rattle.cue_book.specs.declared.Answer.{Answer}
 use Rattle.cue_book.specs.Reading.{cues, readBook, cuesIn}
-use Rattle.line_column.specs.LineColumn.{endsLine, lineColumn}
-use Rattle.line_column.proofs.Lines.{lines-same}
+use Rattle.line_column.specs.LineColumn.{lineColumn}
+use Rattle.line_column.proofs.Lines.{lines-kept}
 use Rattle.outcome.specs.Outcome.{Numbered, chosen, Judged, judge, entriesOf, resolution, Outcome}
 use Rattle.outcome.specs.Told.{cuesOf, placesOf}
 use Rattle.outcome.proofs.Judging.{numbered-cues, length-numbered, numbered-at, missing, all-found, one-faulted}
@@ -87,24 +87,19 @@ module _ {book text copy phrase scratch entries : List ℕ} {r : Answer} {copy�
 
 -- ---- a text folded beforehand
 
--- folding makes no byte 10 and loses none
-folded-break : (b : ℕ) → eqb (folded b) 10 ≡ eqb b 10
-unfolding folded capital
-folded-break b =
-    by-test (λ t. (capital b ≡ t) → eqb (cond t (b + 32) b) 10 ≡ eqb b 10) (capital b)
-    (λ _ e. ne-eqb (b + 32) 10 (λ z. omega arith) ∙ sym (ne-eqb b 10 (λ z. no-capital z e)))
+-- folding makes no byte below 32 and loses none
+folded-control : (c : ℕ) → c ≤ 31 → capital c ≡ false → (b : ℕ) → eqb (folded b) c ≡ eqb b c
+unfolding folded
+folded-control c low stays b =
+    by-test (λ t. (capital b ≡ t) → eqb (cond t (b + 32) b) c ≡ eqb b c) (capital b)
+    (λ _ e. ne-eqb (b + 32) c (λ z. omega arith) ∙ sym (ne-eqb b c (λ z. false≢true (sym stays ∙ sym (ap capital z) ∙ e))))
     (λ _ e. refl)
     refl
-  where
-    no-capital : b ≡ 10 → capital b ≡ true → ⊥
-    no-capital z e = false≢true (sym (ap capital z) ∙ e)
 
-ends-folded : (text : List ℕ) (k : ℕ) → endsLine (map folded text) k ≡ endsLine text k
-unfolding endsLine folded
-ends-folded text k = ap (λ (b : ℕ). eqb b 10) (List·getD-map folded text k 0) ∙ folded-break (getD text k 0)
-
+-- so 10 and 13 stand where they stood
 line-folded : (text : List ℕ) (place : ℕ) → lineColumn (map folded text) place ≡ lineColumn text place
-line-folded text = lines-same text (map folded text) (length-map text folded) (ends-folded text)
+unfolding capital
+line-folded = lines-kept folded (folded-control 10 (omega arith) refl) (folded-control 13 (omega arith) refl)
 
 -- a text folded beforehand gives the same: places, lines and columns, and the same cue missing
 pub folded-before : (text : List ℕ) (xs : List Numbered) → resolution folded (map folded text) xs ≡ resolution folded text xs

@@ -182,6 +182,60 @@ fn kmp_bound() {
     case(1, b"b", b"aaaaaaaa", 1281);
 }
 
+// Request (i) of document 02: the line and the column of each place of a text, that of its end included.
+fn lines(name: &[u8], text: &[u8]) {
+    io::write_all(1, b"lines");
+    io::write_all(1, name);
+    let mut place = 0;
+    while place <= text.len() {
+        let spot = line_column::line_column(text, place, 0, 1);
+        number(spot.line as u64);
+        number(spot.column as u64);
+        place += 1;
+    }
+    io::write_all(1, b"\n");
+}
+
+// The line and the column of a place, where a line of another place is told: it counts where that is not past this one.
+fn known(place: usize, other: usize, line: u32) {
+    io::write_all(1, b"known a 10 b 13 10 c 13");
+    number(place as u64);
+    number(other as u64);
+    number(line as u64);
+    let spot = line_column::line_column(b"a\nb\r\nc\r", place, other, line);
+    number(spot.line as u64);
+    number(spot.column as u64);
+    io::write_all(1, b"\n");
+}
+
+// Each kind of ending, between letters and at the text's end.
+fn endings() {
+    lines(b"", b"");
+    lines(b" a b", b"ab");
+    lines(b" a 10 b", b"a\nb");
+    lines(b" a 13 b", b"a\rb");
+    lines(b" a 13 10 b", b"a\r\nb");
+    lines(b" a 13 13 10 b", b"a\r\r\nb");
+    lines(b" a 10 13 b", b"a\n\rb");
+    lines(b" 13 10 13 10", b"\r\n\r\n");
+    lines(b" a 10", b"a\n");
+    lines(b" a 13", b"a\r");
+    lines(b" a 13 10", b"a\r\n");
+}
+
+// The line told right and wrong, of the place itself, of one before it and of one past it; and places past the text's end.
+fn lines_told() {
+    known(3, 0, 1);
+    known(3, 2, 2);
+    known(4, 4, 2);
+    known(5, 4, 2);
+    known(5, 4, 9);
+    known(6, 7, 9);
+    known(7, 6, 3);
+    known(9, 2, 2);
+    known(9, 8, 5);
+}
+
 fn main() {
     tables();
     letter_tables();
@@ -193,4 +247,6 @@ fn main() {
     engine(5, 256);
     case(6, b"aba", b"ababa", 1281);
     kmp_bound();
+    endings();
+    lines_told();
 }

@@ -18,9 +18,9 @@ pub const PHRASE_BUFFER: usize = 1024;
 pub struct CuePlace {
     /// The place of the occurrence, counted from 0.
     pub place: u32,
-    /// 1 plus the bytes 10 before the place.
+    /// 1 plus the endings wholly before the place: a line ends at 10, at 13, or at the pair 13 10, which is one ending.
     pub line: u32,
-    /// 1 plus the bytes between the last byte 10 before the place, or the text's start, and the place.
+    /// 1 plus the bytes between the last of these endings, or the text's start, and the place.
     pub column: u32,
 }
 

@@ -4,7 +4,7 @@
 //! [`find`] is the find call; [`finder_output`] is what the finder program prints. Each engine has a file of its own, with its table's rule and its
 //! steps. Tables are made by brute force from their rules; [`kmp_table`] and its like make one by itself. [`read_book`], [`title`] and [`write_cue`]
 //! are the calls of the cue book; [`cues`], [`read_cue`] and [`read_field`] are what they are made of. [`resolve`] is the resolver, which searches by
-//! brute force and shares nothing with the engines.
+//! brute force and shares nothing with the engines; [`endings`] and [`line_and_column`] are its line rule.
 
 #![forbid(unsafe_code)]
 
@@ -28,7 +28,7 @@ pub use cue_book::{cues, read_book, read_cue, read_due, read_field, title, write
 pub use find::find;
 pub use finder::finder_output;
 pub use fold::{fold, fold_text};
-pub use resolver::resolve;
+pub use resolver::{endings, line_and_column, resolve};
 pub use tables::{horspool_table, kmp_table, sunday_table};
 
 /// What an engine gives: the places, rising, counted from 0, and the number of looks at a pair P[j], T[i].

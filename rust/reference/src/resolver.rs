@@ -1,6 +1,7 @@
-//! Document 01, "Cue book, folding, lines": the resolver, and "What a refused call hands back", rows 4 to 12.
+//! Document 01, "Cue book, folding, lines": the resolver, and "What a refused call hands back", rows 4 to 12. Document 02 (i): the line rule.
 
 use crate::{cues, fold};
+use std::ops::Range;
 
 /// 0 and the number of cues, or the refusal's number with a cue's index; and what the lent memory holds afterwards.
 pub fn resolve(book: &[u8], text: &[u8], copy: &mut [u8], phrase: &mut [u8], scratch: &mut [u16], entries: &mut [u32]) -> (u32, u32) {
@@ -28,13 +29,14 @@ pub fn resolve(book: &[u8], text: &[u8], copy: &mut [u8], phrase: &mut [u8], scr
     phrase.fill(0);
     scratch.fill(0);
 
+    let endings = endings(text);
     for (index, cue) in cues.iter().enumerate() {
         // The entries of earlier cues stay written; those of this cue and the later ones keep their values.
         let Some(place) = occurrence(&fold_all(&book[cue.phrase.clone()]), &folded, cue.ordinal) else {
             return (12, index as u32);
         };
-        let numbers = [place, line(text, place), column(text, place)];
-        entries[3 * index..3 * index + 3].copy_from_slice(&numbers.map(|number| number as u32));
+        let (line, column) = line_and_column(&endings, place);
+        entries[3 * index..3 * index + 3].copy_from_slice(&[place, line, column].map(|number| number as u32));
     }
     (0, cues.len() as u32)
 }
@@ -48,12 +50,28 @@ fn occurrence(phrase: &[u8], text: &[u8], ordinal: u32) -> Option<usize> {
     (0..text.len()).filter(|&place| text[place..].starts_with(phrase)).nth(ordinal as usize - 1)
 }
 
-/// 1 plus the bytes 10 before the place.
-fn line(text: &[u8], place: usize) -> usize {
-    1 + text[..place].iter().filter(|&&letter| letter == 10).count()
+/// The endings of a text, each by the places that it takes: 10, 13, or the pair 13 10 taken as one.
+pub fn endings(text: &[u8]) -> Vec<Range<usize>> {
+    let mut endings = Vec::new();
+    let mut place = 0;
+    while place < text.len() {
+        let letters = match text[place..] {
+            [13, 10, ..] => 2,
+            [10 | 13, ..] => 1,
+            _ => 0,
+        };
+        if letters > 0 {
+            endings.push(place..place + letters);
+        }
+        place += letters.max(1);
+    }
+    endings
 }
 
-/// 1 plus the bytes between the last byte 10 before the place, or the text's start, and the place.
-fn column(text: &[u8], place: usize) -> usize {
-    1 + text[..place].iter().rev().take_while(|&&letter| letter != 10).count()
+/// The line, which is 1 plus the endings wholly before the place, and the column, which is 1 plus the bytes between the last of them, or the text's
+/// start, and the place.
+pub fn line_and_column(endings: &[Range<usize>], place: usize) -> (usize, usize) {
+    let before: Vec<&Range<usize>> = endings.iter().filter(|ending| ending.end <= place).collect();
+    let start = before.last().map_or(0, |ending| ending.end);
+    (1 + before.len(), 1 + place - start)
 }

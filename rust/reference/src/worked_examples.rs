@@ -2,7 +2,7 @@
 //! memory meet.
 
 use crate::{cues, read_book, read_cue, read_due, read_field, title, write_cue, Cue, Field};
-use crate::{double_window, find, finder_output, fjs, fold, fold_text, horspool, kmp, resolve, sunday};
+use crate::{double_window, endings, find, finder_output, fjs, fold, fold_text, horspool, kmp, line_and_column, resolve, sunday};
 
 /// Total, comparisons and places by a method, with memory enough.
 fn found(method: u32, phrase: &[u8], text: &[u8]) -> (u32, u32, Vec<u32>) {
@@ -215,6 +215,18 @@ fn resolved(book: &[u8], text: &[u8], cues: usize) -> ((u32, u32), Vec<u32>) {
 fn starred_resolving() {
     assert_eq!(resolved(BOOK, b"la\nla", 1), ((0, 1), vec![3, 2, 1]));
     assert_eq!(resolved(BOOK, b"la", 1), ((12, 0), vec![7, 7, 7]));
+}
+
+/// Document 02 (i).
+#[test]
+fn line_ends() {
+    assert_eq!(endings(b"la la"), []);
+    assert_eq!(endings(b"a\nb\rc\r\nd"), [1..2, 3..4, 5..7]);
+    assert_eq!(endings(b"\r\r\n"), [0..1, 1..3]);
+    assert_eq!(endings(b"\n\r"), [0..1, 1..2]);
+    let of = |text| (0..=4).map(|place| line_and_column(&endings(text), place)).collect::<Vec<_>>();
+    assert_eq!(of(b"a\r\nb"), [(1, 1), (1, 2), (1, 3), (2, 1), (2, 2)]);
+    assert_eq!(of(b"a\n\rb"), [(1, 1), (1, 2), (2, 1), (3, 1), (3, 2)]);
 }
 
 #[test]

@@ -3,10 +3,10 @@
 use crate::books::Cue;
 use crate::Random;
 
-/// Alphabets: one letter in both cases, line ends among letters, accents in both cases, and the letters next to the ranges that folding moves, with
-/// those that lie 32 above them.
+/// Alphabets: one letter in both cases, the bytes of line ends among letters, accents in both cases, and the letters next to the ranges that folding
+/// moves, with those that lie 32 above them.
 pub const ALPHABETS: [&[u8]; 5] =
-    [b"aA", b"ab\n", b"la\xc9\xe9 \n", b"\xc0\xe0\xde\xfe\xd7\xf7\xdf\xff", b"@`AaZz[{\xbf\xc0\xd6\xd7\xd8\xde\xdf\xf6\xf7\xf8\xff\n"];
+    [b"aA", b"ab\r\n", b"la\xc9\xe9 \r\n", b"\xc0\xe0\xde\xfe\xd7\xf7\xdf\xff", b"@`AaZz[{\xbf\xc0\xd6\xd7\xd8\xde\xdf\xf6\xf7\xf8\xff\r\n"];
 
 /// The letter of the other case; a letter without one is itself.
 pub fn other_case(letter: u8) -> u8 {

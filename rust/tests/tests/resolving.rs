@@ -94,7 +94,8 @@ fn every_occurrence(phrase: &[u8], text: &[u8], random: &mut Random) {
 fn overlapping_refrains() {
     let mut random = Random::new(54);
     for n in [1, 2, 7, 30, 144, 500, 1100] {
-        for text in [periodic(b"a", n), periodic(b"aA\n", n), periodic(b"\xe9a\xc9", n), periodic(b"aab", n), periodic(b"la la\n", n), fibonacci(n)] {
+        for text in [periodic(b"a", n), periodic(b"aA\n", n), periodic(b"\xe9a\xc9", n), periodic(b"aab", n), periodic(b"la la\r\n", n), fibonacci(n)]
+        {
             let text = in_any_case(&text, &mut random);
             for m in [1, 2, 3, 5, 8, 13, 60] {
                 if m <= n {
@@ -107,14 +108,14 @@ fn overlapping_refrains() {
     report("overlapping_refrains", 2 * 6 * 34);
 }
 
-/// Every text of up to nine letters and line ends, with every occurrence of every phrase of one or two in one book.
+/// Every text of up to eight letters and bytes of line ends, with every occurrence of every phrase of one or two in one book.
 #[test]
 fn every_short_text() {
     let mut random = Random::new(55);
-    let phrases: [&[u8]; 6] = [b"a", b"\n", b"aa", b"a\n", b"\na", b"\n\n"];
-    for length in 0..=9 {
-        for letters in 0..1 << length {
-            let text: Vec<u8> = (0..length).map(|k| if letters >> k & 1 == 0 { b'a' } else { b'\n' }).collect();
+    let phrases: [&[u8]; 12] = [b"a", b"\n", b"\r", b"aa", b"a\n", b"a\r", b"\na", b"\n\n", b"\n\r", b"\ra", b"\r\n", b"\r\r"];
+    for length in 0..=8 {
+        for letters in 0..3usize.pow(length) {
+            let text: Vec<u8> = (0..length).map(|k| b"a\n\r"[letters / 3usize.pow(k) % 3]).collect();
             let occurrences = |phrase| (1..=total(phrase, &text)).map(move |ordinal| Cue::new(phrase, ordinal as u16, b""));
             let cues: Vec<Cue> = phrases.iter().copied().flat_map(occurrences).collect();
             resolve_standing(&cues, &text, &mut random);
@@ -123,7 +124,7 @@ fn every_short_text() {
             }
         }
     }
-    report("every_short_text", 1023 * 7);
+    report("every_short_text", 9841 * 13);
 }
 
 /// All bytes in one text: which of them are one letter.
@@ -153,18 +154,55 @@ fn places_lines_and_columns() {
     assert_eq!(places(b"la\nla", b"\n", 1), Some((2, 1, 3)));
     assert_eq!(places(b"la\n\nla", b"\n", 2), Some((3, 2, 1)));
     assert_eq!(places(b"\nla la", b"LA", 2), Some((4, 2, 4)));
+    // 13 alone, and the pair: before it, between its bytes, and after it.
+    assert_eq!(places(b"la\rla", b"la", 2), Some((3, 2, 1)));
+    assert_eq!(places(b"la\rla", b"\r", 1), Some((2, 1, 3)));
     assert_eq!(places(b"a\r\na\r\n", b"\r", 2), Some((4, 2, 2)));
+    assert_eq!(places(b"a\r\na\r\n", b"\n", 2), Some((5, 2, 3)));
+    assert_eq!(places(b"a\r\na\r\n", b"a\r\n", 2), Some((3, 2, 1)));
+    // 13 13 10 is two endings, and so is 10 13.
+    assert_eq!(places(b"a\r\r\nb", b"\r\n", 1), Some((2, 2, 1)));
+    assert_eq!(places(b"a\r\r\nb", b"\n", 1), Some((3, 2, 2)));
+    assert_eq!(places(b"a\r\r\nb", b"b", 1), Some((4, 3, 1)));
+    assert_eq!(places(b"a\n\rb", b"\r", 1), Some((2, 2, 1)));
+    assert_eq!(places(b"a\n\rb", b"b", 1), Some((3, 3, 1)));
     assert_eq!(places(b"\xc9t\xc9T\xe9", b"\xe9t\xe9", 2), Some((2, 1, 3)));
     assert_eq!(places(&[b'\n'; TEXT], b"\n", 32_768), Some((32_767, 32_768, 1)));
+    assert_eq!(places(&[b'\r'; TEXT], b"\r", 32_768), Some((32_767, 32_768, 1)));
+    assert_eq!(places(&periodic(b"\r\n", TEXT), b"\r", 16_384), Some((32_766, 16_384, 1)));
+    assert_eq!(places(&periodic(b"\r\n", TEXT), b"\n", 16_384), Some((32_767, 16_384, 2)));
+    assert_eq!(places(&periodic(b"\n\r", TEXT), b"\r", 16_384), Some((32_767, 16_385, 1)));
     assert_eq!(places(&[b'a'; TEXT], b"A", 32_768), Some((32_767, 1, 32_768)));
     assert_eq!(places(&[&b"\n"[..], &[b'a'; TEXT - 1]].concat(), b"aa", 32_766), Some((32_766, 2, 32_766)));
+}
+
+/// Each ending after every number of letters up to some blocks of counting: cues before it, in it and after it, rising and falling, since a line is
+/// counted on from the cue before.
+#[test]
+fn endings_at_every_distance() {
+    let mut random = Random::new(60);
+    let endings: [&[u8]; 7] = [b"\n", b"\r", b"\r\n", b"\n\r", b"\r\r\n", b"\r\n\r", b"\n\r\n"];
+    for distance in 0..=600 {
+        for ending in endings {
+            let text = [b"b", &vec![b'a'; distance][..], ending, b"b", &vec![b'a'; distance % 200], ending, b"b"].concat();
+            let cue = |phrase: &[u8], ordinal| Cue::new(phrase, ordinal, b"");
+            let mut cues: Vec<Cue> = (1..=3).map(|ordinal| cue(b"b", ordinal)).collect();
+            for byte in [b"\n", b"\r"] {
+                cues.extend((1..=total(byte, &text)).map(|ordinal| cue(byte, ordinal as u16)));
+            }
+            resolve_standing(&cues, &text, &mut random);
+            cues.reverse();
+            resolve_standing(&cues, &text, &mut random);
+        }
+    }
+    report("endings_at_every_distance", 601 * 7 * 2);
 }
 
 #[test]
 fn longest_texts_and_phrases() {
     let mut random = Random::new(57);
     for n in [PHRASE - 1, PHRASE, PHRASE + 1, 5000, TEXT - 1, TEXT] {
-        for text in [word(ALPHABETS[2], n, &mut random), periodic(b"aB\n", n), fibonacci(n), vec![b'\n'; n]] {
+        for text in [word(ALPHABETS[2], n, &mut random), periodic(b"aB\r\n", n), fibonacci(n), vec![b'\n'; n]] {
             for m in [1, 2, 255, 256, 257, PHRASE - 1, PHRASE] {
                 if m > n {
                     resolve_missing(&[Cue::new(&periodic(&text, m), 1, b"")], 0, &text, &mut random);

@@ -115,9 +115,22 @@ fn latin1(utf8: &[u8]) -> Vec<u8> {
     text.chars().map(|letter| u8::try_from(letter).expect("the letter is in ISO 8859-1")).collect()
 }
 
-/// Letters as a show file has them, where byte 10 is the only one that is written in another way.
+/// Letters as a show file has them, where the bytes 10 and 13 are the only ones that are written in another way.
 fn shown(letters: &[u8]) -> String {
-    letters.iter().map(|&letter| char::from(letter)).collect::<String>().replace('\n', "\\n")
+    letters.iter().map(|&letter| char::from(letter)).collect::<String>().replace('\n', "\\n").replace('\r', "\\x0d")
+}
+
+/// The line and the column of a place that a letter stands at: the endings before it are made one byte each, and the text is taken apart there. A 13
+/// before a 10 at the place is no ending yet, and any other letter stands for it.
+fn line_and_column(text: &[u8], place: usize) -> (usize, usize) {
+    let mut before: String = text[..place].iter().map(|&letter| char::from(letter)).collect();
+    if before.ends_with('\r') && text[place] == b'\n' {
+        before.pop();
+        before.push('-');
+    }
+    let before = before.replace("\r\n", "\n");
+    let lines: Vec<&str> = before.split(['\n', '\r']).collect();
+    (lines.len(), lines[lines.len() - 1].chars().count() + 1)
 }
 
 /// The show file of cues that stand in the text, by brute force.
@@ -125,9 +138,9 @@ fn show_file(text: &[u8], cues: &[Cue]) -> String {
     let mut file = HEAD.to_string();
     for (index, cue) in cues.iter().enumerate() {
         let place = places(&cue.phrase, text)[usize::from(cue.ordinal) - 1];
-        let lines: Vec<&[u8]> = text[..place].split(|&letter| letter == 10).collect();
-        let line = format!("{index:3}  {place:5}  {:5}  {:6}  {}", lines.len(), lines[lines.len() - 1].len() + 1, shown(&cue.title));
-        file += &format!("{}\n", line.trim_end());
+        let (line, column) = line_and_column(text, place);
+        let row = format!("{index:3}  {place:5}  {line:5}  {column:6}  {}", shown(&cue.title));
+        file += &format!("{}\n", row.trim_end());
     }
     file += REFRAINS;
     let mut printed: Vec<Vec<usize>> = Vec::new();
@@ -157,6 +170,26 @@ fn the_aria() {
 
     desk.show_of(&text, &made.out).is(0, &expected, "");
     desk.show(&["--latin1", "text", "book"]).is(0, &latin1(&expected), "");
+}
+
+/// The aria as old desks send it, its lines ended by 13, or by 13 and 10: each cue has the line and the column that it has in the aria.
+#[test]
+fn the_aria_from_old_desks() {
+    let desk = Desk::new("old-desks");
+    let [table, aria] = ["aria.cues", "aria.show"].map(|name| String::from_utf8(example(name)).expect("the file is in UTF-8"));
+    let lines_and_columns = |show: &str| -> Vec<String> {
+        let rows = show.lines().skip(1).take_while(|row| !row.is_empty());
+        rows.map(|row| row.split_whitespace().skip(2).take(2).collect::<Vec<_>>().join(" ")).collect()
+    };
+    for (ending, written) in [(&b"\r"[..], "\\x0d"), (b"\r\n", "\\x0d\\n")] {
+        let text = example("aria.txt").split(|&letter| letter == b'\n').collect::<Vec<_>>().join(ending);
+        let book = desk.book(&[], table.replace("\\n", written).as_bytes());
+        let left = desk.show_of(&text, &book.out);
+        let show = String::from_utf8(left.out).expect("the show file is in UTF-8");
+        assert_eq!(lines_and_columns(&show), lines_and_columns(&aria), "{written}: lines and columns");
+        // One byte for another moves no place.
+        assert!(ending.len() > 1 || show == aria.replace("\\n", written), "{show}");
+    }
 }
 
 #[test]

@@ -1,7 +1,7 @@
 //! The program `vectors`: the file that the gate holds its output to is built again here from the reference alone, case by case in the program's order.
 
 use libretto_tests::programs::repository;
-use reference::{find, horspool_table, kmp_table, sunday_table};
+use reference::{endings, find, horspool_table, kmp_table, line_and_column, sunday_table};
 use std::fmt::Display;
 use std::fs;
 use std::ops::Range;
@@ -75,12 +75,40 @@ fn kmp_bound() -> String {
     [("aaab", "aaaaaaaa"), ("aaab", "aaaa"), ("ab", "aaaaaaaa"), ("b", "aaaaaaaa")].map(|(pattern, text)| case(1, pattern, text, ROOM)).concat()
 }
 
+/// A text by its bytes: letters, and the numbers of those that end lines.
+fn by_bytes(text: &str) -> String {
+    text.chars().map(|letter| if letter < ' ' { format!(" {}", letter as u32) } else { format!(" {letter}") }).collect()
+}
+
+/// Request (i) of document 02: line and column of every place, the end's included.
+fn lines(text: &str) -> String {
+    let endings = endings(text.as_bytes());
+    let numbers = (0..=text.len()).flat_map(|place| <[usize; 2]>::from(line_and_column(&endings, place)));
+    line(&format!("lines{}", by_bytes(text)), numbers)
+}
+
+/// The same of one place, where the line of another place is told: it counts where that is not past this one.
+fn known(text: &str, place: usize, known: usize, told: usize) -> String {
+    let endings = endings(text.as_bytes());
+    let end = place.min(text.len());
+    let (own, column) = line_and_column(&endings, end);
+    let counted = if known <= end { told + own - line_and_column(&endings, known).0 } else { own };
+    line(&format!("known{}", by_bytes(text)), [place, known, told, counted, column])
+}
+
+fn line_rule() -> String {
+    let texts = ["", "ab", "a\nb", "a\rb", "a\r\nb", "a\r\r\nb", "a\n\rb", "\r\n\r\n", "a\n", "a\r", "a\r\n"].map(lines);
+    let all = "a\nb\r\nc\r";
+    let told = [(3, 0, 1), (3, 2, 2), (4, 4, 2), (5, 4, 2), (5, 4, 9), (6, 7, 9), (7, 6, 3), (9, 2, 2), (9, 8, 5)];
+    texts.concat() + &told.map(|(place, other, line)| known(all, place, other, line)).concat()
+}
+
 #[test]
 fn the_expected_output() {
     let path = repository().join("crates/vectors/stdout");
     let held = fs::read_to_string(&path).unwrap_or_else(|error| panic!("{}: {error}", path.display()));
     let engines = [0, 4, 256, 256, 260, 256].into_iter().zip(0..).map(|(enough, method)| engine(method, enough));
-    let due = [tables(), engines.collect(), case(6, "aba", "ababa", ROOM), kmp_bound()].concat();
+    let due = [tables(), engines.collect(), case(6, "aba", "ababa", ROOM), kmp_bound(), line_rule()].concat();
 
     let (mut held_lines, mut due_lines) = (held.lines(), due.lines());
     for number in 1.. {

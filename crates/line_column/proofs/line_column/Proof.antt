@@ -6,7 +6,7 @@ use native.Mathlib.Omega.{arith}
 use lib.ListN.{length}
 use Rattle.line_column.specs.declared.LineColumn.{LineColumn}
 use Rattle.line_column.specs.LineColumn.{endsBefore, lineStart, lineColumn, lineColumnFrom}
-use Rattle.line_column.proofs.Lines.{ends-few, known-past, known-before, column-from}
+use Rattle.line_column.proofs.Lines.{ends-start, ends-few, known-past, known-before, column-from}
 use Rattle.line_column.proofs.line_column.Statement.{statement}
 use Rattle.line_column.proofs.line_column.Tie as tie
 
@@ -23,7 +23,7 @@ count-breaks-requires c κs =
 -- the line, counted from the text's start or from the known place
 counted : (c : tie.After-count-breaks) → let a = c .before .before .before .before .args in
     c .count-breaks .result + c .before .if2 .first ≡ lineColumnFrom (a .text .now) (a .known) (a .line) (a .place) .line
-unfolding lineColumn endsBefore
+unfolding lineColumn
 counted c =
     let j = c .before .before in
     let a = j .before .before .args in
@@ -32,7 +32,7 @@ counted c =
     ⊎-elim
     (λ w.
     let past : min (a .place) (length text) < a .known = omega (arith, w .0 .taken, end) in
-    omega (arith, c .count-breaks .ensures, ap (endsBefore text) (w .1), w .2, ap (endsBefore text) end, ap (λ (x : LineColumn). x .line) (known-past text (a .known) (a .line) (a .place) past)))
+    omega (arith, c .count-breaks .ensures, ap (endsBefore text) (w .1), ends-start text .0, w .2, ap (endsBefore text) end, ap (λ (x : LineColumn). x .line) (known-past text (a .known) (a .line) (a .place) past)))
     (λ w.
     let before : a .known ≤ min (a .place) (length text) = omega (arith, w .0 .left, end) in
     omega (arith, c .count-breaks .ensures, ap (endsBefore text) (w .1), w .2, ap (endsBefore text) end, ap (λ (x : LineColumn). x .line) (known-before text (a .known) (a .line) (a .place) before)))
