@@ -1,2 +1,3 @@
 -- The laws of the line rule.
+pub mod Endings
 pub mod Lines

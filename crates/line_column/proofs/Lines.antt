@@ -1,212 +1,87 @@
--- The line rule byte by byte: where an ending is over with a byte (`endsLine`), one ending more is wholly before the next place, and a line starts there (`ends-at`); any other byte adds none
--- (`ends-not`). Then the line counted on from a place whose line is known (`line-known`), and bytes in the place of others (`lines-kept`). Assumes nothing.
+-- Lines and columns: counted on from a place whose own are told (`line-known`), how large they are, and bytes in the place of others (`lines-kept`). Assumes nothing.
 use mathlib.Core.Path.{_≡_, refl, sym, ap, ap₂, _∙_}
-use Prim.Native.Nat.{ℕ, zero, suc, _+_, _-_, _≤_, _<_, min}
+use Prim.Native.Nat.{ℕ, suc, _+_, _-_, _≤_, _<_, min}
 use native.Mathlib.Omega.{arith}
-use mathlib.Core.Bool.{Bool, true, false, cond, _&&_, _||_}
-use mathlib.Core.List.{List, [], _∷_, _++_, map, append-nil}
-use lib.ListN.{length, getD, length-append, length-map}
+use mathlib.Core.Bool.{Bool, cond, _&&_, _||_}
+use mathlib.Core.List.{List, [], _∷_, map}
+use lib.ListN.{length, length-map}
 use lib.Dec.{eqb, ltb}
-use borrow.Author.Tests.{eqb-true, ltb-true, ltb-false, lt-ltb, le-ltb, le-leb, lt-leb}
-use Rattle.matching.proofs.CaseAnalysis.{by-test, both}
+use borrow.Author.Tests.{ltb-true, ltb-false, lt-ltb, le-ltb}
+use Rattle.matching.proofs.CaseAnalysis.{by-test}
 use Rattle.line_column.specs.declared.LineColumn.{LineColumn}
-use Rattle.line_column.specs.LineColumn.{isPair, isEnding, endings, whollyBefore, lastOf, endsLine, endsBefore, lineStart, lineColumn, lineColumnFrom}
+use Rattle.line_column.specs.LineColumn.{isPair, isEnding, endings, endsBefore, lineStart, lineColumn, lineColumnOn, lineColumnFrom}
+use Rattle.line_column.proofs.Endings.{ends-start, ends-few, start-few, ends-rise, start-kept}
 
--- ---- the endings from a place on
+-- ---- line and column counted on from a place whose own are told
 
--- what stands first in a text of two bytes and more: an ending of two, of one, or none
-by-ending : (Q : List ℕ → Type 0) (k a b : ℕ) (rest : List ℕ) → (isPair a b ≡ true → Q (suc (suc k) ∷ endings (suc (suc k)) rest))
-    → (isPair a b ≡ false → isEnding a ≡ true → Q (suc k ∷ endings (suc k) (b ∷ rest))) → (isPair a b ≡ false → isEnding a ≡ false → Q (endings (suc k) (b ∷ rest))) → Q (endings k (a ∷ b ∷ rest))
-unfolding endings
-by-ending Q k a b rest two one none =
-    let alone : Bool → List ℕ = λ t. cond t (suc k ∷ endings (suc k) (b ∷ rest)) (endings (suc k) (b ∷ rest)) in
-    by-test (λ t. Q (cond t (suc (suc k) ∷ endings (suc (suc k)) rest) (alone (isEnding a)))) (isPair a b)
-    two
-    (λ p. by-test (λ t. Q (alone t)) (isEnding a) (one p) (none p))
+-- line and column of a place that is in the text, or at its end
+abbrev there : List ℕ → ℕ → LineColumn
+there text k = record { line = endsBefore text k + 1; column = k - lineStart text k + 1 }
 
-module _ (place e : ℕ) (es : List ℕ) where
-  taken : e ≤ place → whollyBefore place (e ∷ es) ≡ e ∷ whollyBefore place es
-  unfolding whollyBefore
-  taken h = rw (le-leb e place h)
-
-  passed : place < e → whollyBefore place (e ∷ es) ≡ whollyBefore place es
-  unfolding whollyBefore
-  passed h = rw (lt-leb e place h)
-
--- none is wholly before the place that they start from
-none-before : (k place : ℕ) (text : List ℕ) → place ≤ k → whollyBefore place (endings k text) ≡ []
-unfolding endings whollyBefore
-none-before k place [] h = refl
-none-before k place (a ∷ []) h = by-test (λ t. whollyBefore place (cond t (suc k ∷ []) []) ≡ []) (isEnding a) (λ _. passed place (suc k) [] (omega arith)) (λ _. refl)
-none-before k place (a ∷ b ∷ rest) h =
-    let later : whollyBefore place (endings (suc k) (b ∷ rest)) ≡ [] = none-before (suc k) place (b ∷ rest) (omega arith) in
-    by-ending (λ l. whollyBefore place l ≡ []) k a b rest
-    (λ _. passed place (suc (suc k)) (endings (suc (suc k)) rest) (omega arith) ∙ none-before (suc (suc k)) place rest (omega arith))
-    (λ _ _. passed place (suc k) (endings (suc k) (b ∷ rest)) (omega arith) ∙ later)
-    (λ _ _. later)
-
--- nor before its end, of those that start with one
-none-after : (e place : ℕ) (text : List ℕ) → place < e → whollyBefore place (e ∷ endings e text) ≡ []
-none-after e place text h = passed place e (endings e text) h ∙ none-before e place text (omega arith)
-
--- ---- from a place to the next
-
--- wholly before the next place are those before this one, and one that is over with the byte between, if t
-abbrev Steps : ℕ → List ℕ → Bool → Type 0
-Steps place es t = whollyBefore (suc place) es ≡ whollyBefore place es ++ cond t (suc place ∷ []) []
-
-module _ (place : ℕ) where
-  -- an ending further before makes no difference
-  step-after : (e : ℕ) (es : List ℕ) (t : Bool) → e ≤ place → Steps place es t → Steps place (e ∷ es) t
-  step-after e es t h s =
-      taken (suc place) e es (omega arith) ∙ ap (λ (l : List ℕ). e ∷ l) s ∙ sym (ap (λ (l : List ℕ). l ++ cond t (suc place ∷ []) []) (taken place e es h))
-
-  -- one that is over there is the new one
-  step-at : (e : ℕ) (es : List ℕ) → e ≡ suc place → whollyBefore (suc place) es ≡ [] → whollyBefore place es ≡ [] → Steps place (e ∷ es) true
-  step-at e es h none none₀ =
-      taken (suc place) e es (omega arith) ∙ ap₂ (λ (x : ℕ) (l : List ℕ). x ∷ l) h none ∙ sym (ap (λ (l : List ℕ). l ++ suc place ∷ []) (passed place e es (omega arith) ∙ none₀))
-
-  -- none is there yet
-  step-none : (es : List ℕ) → whollyBefore (suc place) es ≡ [] → whollyBefore place es ≡ [] → Steps place es false
-  step-none es none none₀ = none ∙ sym (ap (λ (l : List ℕ). l ++ []) none₀)
-
--- where an ending is over: not with the first byte of a pair but with the second, and with any other byte that is one; the last byte of a text makes no pair
-module _ (a b : ℕ) where
-  ends-one : isPair a b ≡ false → endsLine a b ≡ isEnding a
-  unfolding endsLine
-  ends-one p = rw p (by-test (λ t. (t && true) ≡ t) (isEnding a) (λ _. refl) (λ _. refl))
-
-  ends-first : isPair a b ≡ true → endsLine a b ≡ false
-  unfolding endsLine
-  ends-first p = rw p (by-test (λ t. (t && false) ≡ false) (isEnding a) (λ _. refl) (λ _. refl))
-
-  ends-second : (next : ℕ) → isPair a b ≡ true → endsLine b next ≡ true
-  unfolding endsLine isPair isEnding
-  ends-second next p = let ten : b ≡ 10 = eqb-true b 10 (both (eqb a 13) (eqb b 10) p .1) in rw ten refl
-
-pair-none : (a : ℕ) → isPair a 0 ≡ false
-unfolding isPair
-pair-none a = by-test (λ t. (t && false) ≡ false) (eqb a 13) (λ _. refl) (λ _. refl)
-
--- the endings of a text, step by step
-steps : (k : ℕ) (text : List ℕ) (i place : ℕ) → place ≡ k + i → Steps place (endings k text) (endsLine (getD text i 0) (getD text (suc i) 0))
-unfolding endings whollyBefore endsLine isPair isEnding
-steps k [] i place h = refl
-steps k (a ∷ []) zero place h =
-    rw (ends-one a 0 (pair-none a)) (by-test (λ t. Steps place (cond t (suc k ∷ []) []) t) (isEnding a) (λ _. step-at place (suc k) [] (omega arith) refl refl) (λ _. refl))
-steps k (a ∷ []) (suc i) place h = by-test (λ t. Steps place (cond t (suc k ∷ []) []) false) (isEnding a) (λ _. step-after place (suc k) [] false (omega arith) refl) (λ _. refl)
-steps k (a ∷ b ∷ rest) zero place h =
-    let next : List ℕ = endings (suc k) (b ∷ rest) in
-    let none = none-before (suc k) (suc place) (b ∷ rest) (omega arith) in
-    let none₀ = none-before (suc k) place (b ∷ rest) (omega arith) in
-    by-ending (λ l. Steps place l (endsLine a b)) k a b rest
-    (λ p. rw (ends-first a b p) (step-none place (suc (suc k) ∷ endings (suc (suc k)) rest) (none-after (suc (suc k)) (suc place) rest (omega arith)) (none-after (suc (suc k)) place rest (omega arith))))
-    (λ p e. rw (ends-one a b p, e) (step-at place (suc k) next (omega arith) none none₀))
-    (λ p e. rw (ends-one a b p, e) (step-none place next none none₀))
-steps k (a ∷ b ∷ rest) (suc i) place h =
-    let t : Bool = endsLine (getD (b ∷ rest) i 0) (getD (b ∷ rest) (suc i) 0) in
-    let next : Steps place (endings (suc k) (b ∷ rest)) t = steps (suc k) (b ∷ rest) i place (omega arith) in
-    by-ending (λ l. Steps place l t) k a b rest
-    (λ p. pair p (λ j. steps (suc (suc k)) rest j place) i h)
-    (λ _ _. step-after place (suc k) (endings (suc k) (b ∷ rest)) t (omega arith) next)
-    (λ _ _. next)
-  where
-    pair : isPair a b ≡ true → ((j : ℕ) → place ≡ suc (suc k) + j → Steps place (endings (suc (suc k)) rest) (endsLine (getD rest j 0) (getD rest (suc j) 0))) → (i : ℕ) → place ≡ k + suc i → Steps place (suc (suc k) ∷ endings (suc (suc k)) rest) (endsLine (getD (b ∷ rest) i 0) (getD (b ∷ rest) (suc i) 0))
-    pair p later zero h =
-        rw (ends-second a b (getD rest 0 0) p)
-        (step-at place (suc (suc k)) (endings (suc (suc k)) rest) (omega arith) (none-before (suc (suc k)) (suc place) rest (omega arith)) (none-before (suc (suc k)) place rest (omega arith)))
-    pair p later (suc i) h = step-after place (suc (suc k)) (endings (suc (suc k)) rest) (endsLine (getD rest i 0) (getD rest (suc i) 0)) (omega arith) (later i (omega arith))
-
--- ---- how many, and where the line starts, from a place to the next
-
-last-more : (start : ℕ) (l : List ℕ) (x : ℕ) → lastOf start (l ++ x ∷ []) ≡ x
-unfolding lastOf
-last-more start [] x = refl
-last-more start (e ∷ l) x = last-more e l x
-
-module _ (text : List ℕ) (i : ℕ) where
-  abbrev ends : Bool
-  ends = endsLine (getD text i 0) (getD text (suc i) 0)
-
-  pub ends-at : ends ≡ true → (endsBefore text (suc i) ≡ suc (endsBefore text i)) × (lineStart text (suc i) ≡ suc i)
-  unfolding endsBefore lineStart
-  ends-at e =
-      let l : List ℕ = whollyBefore i (endings 0 text) in
-      let one : whollyBefore (suc i) (endings 0 text) ≡ l ++ suc i ∷ [] = steps 0 text i i (omega arith) ∙ ap (λ (t : Bool). l ++ cond t (suc i ∷ []) []) e in
-      (ap length one ∙ omega (arith, length-append l (suc i ∷ [])), ap (lastOf 0) one ∙ last-more 0 l (suc i))
-
-  pub ends-not : ends ≡ false → (endsBefore text (suc i) ≡ endsBefore text i) × (lineStart text (suc i) ≡ lineStart text i)
-  unfolding endsBefore lineStart
-  ends-not e =
-      let l : List ℕ = whollyBefore i (endings 0 text) in
-      let same : whollyBefore (suc i) (endings 0 text) ≡ l = steps 0 text i i (omega arith) ∙ ap (λ (t : Bool). l ++ cond t (suc i ∷ []) []) e ∙ append-nil l in
-      (ap length same, ap (lastOf 0) same)
-
-  -- a byte more, and one line more or none
-  pub ends-more : (endsBefore text i ≤ endsBefore text (suc i)) × (endsBefore text (suc i) ≤ suc (endsBefore text i))
-  ends-more =
-      by-test (λ _. (endsBefore text i ≤ endsBefore text (suc i)) × (endsBefore text (suc i) ≤ suc (endsBefore text i))) ends
-      (λ e. (omega (arith, ends-at e .0), omega (arith, ends-at e .0)))
-      (λ e. (omega (arith, ends-not e .0), omega (arith, ends-not e .0)))
-
--- no line ends before the text's start
-pub ends-start : (text : List ℕ) → (endsBefore text 0 ≡ 0) × (lineStart text 0 ≡ 0)
-unfolding endsBefore lineStart lastOf
-ends-start text = let none = none-before 0 0 text (omega arith) in (ap length none, ap (lastOf 0) none)
-
--- no more lines end before a place than bytes stand there
-pub ends-few : (text : List ℕ) (k : ℕ) → endsBefore text k ≤ k
-ends-few text zero = omega (arith, ends-start text .0)
-ends-few text (suc k) = omega (arith, ends-few text k, ends-more text k .1)
-
--- no fewer lines end before a later place
-pub ends-rise : (text : List ℕ) {from : ℕ} (k : ℕ) → from ≤ k → endsBefore text from ≤ endsBefore text k
-ends-rise text {from} zero h = let z : from ≡ 0 = omega arith in omega (arith, ap (endsBefore text) z)
-ends-rise text {from} (suc k) h =
-    by-test (λ _. endsBefore text from ≤ endsBefore text (suc k)) (ltb k from)
-    (λ t. let e : from ≡ suc k = omega (arith, ltb-true k from t) in omega (arith, ap (endsBefore text) e))
-    (λ t. omega (arith, ends-rise text k (ltb-false k from t), ends-more text k .0))
-
--- ---- the line counted on from a place whose line is known
-
-module _ (text : List ℕ) (known line place : ℕ) where
-  pub known-past : min place (length text) < known → lineColumnFrom text known line place ≡ lineColumn text place
-  unfolding lineColumnFrom
-  known-past h = rw (lt-ltb (min place (length text)) known h)
-
-  pub known-before : known ≤ min place (length text)
-      → lineColumnFrom text known line place ≡ record { line = endsBefore text (min place (length text)) - endsBefore text known + line; column = lineColumn text place .column }
-  unfolding lineColumnFrom
-  known-before h = rw (le-ltb (min place (length text)) known h)
-
-  -- the column is counted from the line's start in any case
-  pub column-from : min place (length text) - lineStart text (min place (length text)) + 1 ≡ lineColumnFrom text known line place .column
-  unfolding lineColumnFrom lineColumn
-  column-from =
-      let end = min place (length text) in
-      by-test
-      (λ t. end - lineStart text end + 1 ≡ cond t (lineColumn text place) (record { line = endsBefore text end - endsBefore text known + line; column = lineColumn text place .column }) .column)
-      (ltb end known)
-      (λ _. refl)
-      (λ _. refl)
-
-  -- a line that is the known place's gives the line of this one
-  pub line-known : line ≡ lineColumn text known .line → lineColumnFrom text known line place ≡ lineColumn text place
-  unfolding lineColumn
-  line-known e =
-      let end = min place (length text) in
-      by-test (λ _. lineColumnFrom text known line place ≡ lineColumn text place) (ltb end known)
-      (λ t. known-past (ltb-true end known t))
-      (λ t.
-      let h : known ≤ end = ltb-false end known t in
-      let same : min known (length text) ≡ known = omega arith in
-      let on : endsBefore text end - endsBefore text known + line ≡ endsBefore text end + 1 = omega (arith, e, ap (endsBefore text) same, ends-rise text end h) in
-      known-before h ∙ ap (λ (l : ℕ). record { line = l; column = end - lineStart text end + 1 }) on)
-
--- the text's first place is in line 1
-pub line-first : (text : List ℕ) → lineColumn text 0 .line ≡ 1
+inside : (text : List ℕ) (k : ℕ) → k ≤ length text → lineColumn text k ≡ there text k
 unfolding lineColumn
-line-first text = let z : min 0 (length text) ≡ 0 = omega arith in omega (arith, ap (endsBefore text) z, ends-start text .0)
+inside text k h = let e : min k (length text) ≡ k = omega arith in ap (there text) e
+
+-- what is counted on: with a line end between, and without
+module _ (text : List ℕ) (start line column end count : ℕ) (counted : endsBefore text end ≡ endsBefore text start + count) where
+  between : endsBefore text end - endsBefore text start ≡ count
+  between = omega (arith, counted)
+
+  pub on-some : 0 < count → lineColumnOn text start line column end ≡ record { line = line + count; column = end - lineStart text end + 1 }
+  unfolding lineColumnOn
+  on-some h = rw (between, lt-ltb 0 count h) refl
+
+  pub on-none : count ≤ 0 → lineColumnOn text start line column end ≡ record { line = line + count; column = column + (end - start) }
+  unfolding lineColumnOn
+  on-none h = rw (between, le-ltb 0 count h) refl
+
+-- what is told of a place being right, so is what is counted on from there
+on-right : (text : List ℕ) {start : ℕ} {told : LineColumn} (end : ℕ) → start ≤ end → end ≤ length text → told ≡ lineColumn text start
+    → lineColumnOn text start (told .line) (told .column) end ≡ there text end
+on-right text {start} {told} end h within right =
+    let count = endsBefore text end - endsBefore text start in
+    let rise = ends-rise text end h in
+    let counted : endsBefore text end ≡ endsBefore text start + count = omega (arith, rise) in
+    let own : told ≡ there text start = right ∙ inside text start (omega arith) in
+    let lines : told .line + count ≡ endsBefore text end + 1 = omega (arith, ap (λ (x : LineColumn). x .line) own, rise) in
+    by-test (λ _. lineColumnOn text start (told .line) (told .column) end ≡ there text end) (ltb 0 count)
+    (λ t. on-some text start (told .line) (told .column) end count counted (ltb-true 0 count t) ∙ ap (λ (n : ℕ). record { line = n; column = end - lineStart text end + 1 }) lines)
+    (λ t.
+    let none : count ≤ 0 = ltb-false 0 count t in
+    let kept = start-kept text end h (omega (arith, none, rise)) in
+    let columns : told .column + (end - start) ≡ end - lineStart text end + 1 = omega (arith, ap (λ (x : LineColumn). x .column) own, kept, start-few text start) in
+    on-none text start (told .line) (told .column) end count counted none ∙ ap₂ (λ (n k : ℕ). record { line = n; column = k }) lines columns)
+
+-- the text's first place is in line 1, column 1
+pub line-first : (text : List ℕ) → record { line = 1; column = 1 } ≡ lineColumn text 0
+line-first text = let one : 1 ≡ endsBefore text 0 + 1 = omega (arith, ends-start text .0) in ap₂ (λ (l c : ℕ). record { line = l; column = c }) one (omega arith) ∙ sym (inside text 0 (omega arith))
+
+module _ (text : List ℕ) (known place : ℕ) where
+  abbrev end : ℕ
+  end = min place (length text)
+
+  ended : there text end ≡ lineColumn text place
+  unfolding lineColumn
+  ended = refl
+
+  -- one that is past this place plays no part
+  known-none : (line column : ℕ) → end < known → lineColumnFrom text known line column place ≡ lineColumn text place
+  unfolding lineColumnFrom
+  known-none line column h = rw (lt-ltb end known h)
+
+  pub known-past : (line column : ℕ) → end < known → lineColumnOn text 0 1 1 end ≡ lineColumnFrom text known line column place
+  known-past line column h = on-right text end (omega arith) (omega arith) (line-first text) ∙ ended ∙ sym (known-none line column h)
+
+  pub known-before : (line column : ℕ) → known ≤ end → lineColumnOn text known line column end ≡ lineColumnFrom text known line column place
+  unfolding lineColumnFrom
+  known-before line column h = rw (le-ltb end known h)
+
+  -- the known place's own line and column give those of this place
+  pub line-known : {told : LineColumn} → told ≡ lineColumn text known → lineColumnFrom text known (told .line) (told .column) place ≡ lineColumn text place
+  line-known {told} right =
+      by-test (λ _. lineColumnFrom text known (told .line) (told .column) place ≡ lineColumn text place) (ltb end known)
+      (λ t. known-none (told .line) (told .column) (ltb-true end known t))
+      (λ t. let h = ltb-false end known t in sym (known-before (told .line) (told .column) h) ∙ on-right text end h (omega arith) right ∙ ended)
 
 -- a line and a column are at most 1 more than the text has bytes
 pub line-small : (text : List ℕ) (place : ℕ) → lineColumn text place .line ≤ length text + 1

@@ -50,13 +50,20 @@ unfoldable pub lineColumn : List ℕ → ℕ → LineColumn
 unfolding endsBefore lineStart
 lineColumn text place = record { line = endsBefore text (min place (length text)) + 1; column = min place (length text) - lineStart text (min place (length text)) + 1 }
 
--- the same where the line of another place is told: if that place is not past this one, the endings between the two are added to the line told
-unfoldable pub lineColumnFrom : List ℕ → ℕ → ℕ → ℕ → LineColumn
-unfolding endsBefore lineColumn
-lineColumnFrom text known line place =
-    cond (ltb (min place (length text)) known)
-    (lineColumn text place)
-    (record { line = endsBefore text (min place (length text)) - endsBefore text known + line; column = lineColumn text place .column })
+-- what they are if some line and column are told of a place at or before it: the endings between the two are added to the line, and without any the bytes between to the column
+unfoldable pub lineColumnOn : List ℕ → ℕ → ℕ → ℕ → ℕ → LineColumn
+unfolding endsBefore lineStart
+lineColumnOn text start line column place =
+    record {
+      line = line + (endsBefore text place - endsBefore text start);
+      column = cond (ltb 0 (endsBefore text place - endsBefore text start)) (place - lineStart text place + 1) (column + (place - start));
+    }
+
+-- the same of any other place: one that is past this one plays no part
+unfoldable pub lineColumnFrom : List ℕ → ℕ → ℕ → ℕ → ℕ → LineColumn
+unfolding lineColumn lineColumnOn
+lineColumnFrom text known line column place =
+    cond (ltb (min place (length text)) known) (lineColumn text place) (lineColumnOn text known line column (min place (length text)))
 
 -- how the code counts them, by a byte and the one after it: whether an ending is over with the byte `here`, which `next` follows; past the text's end stands 0
 unfoldable pub endsLine : ℕ → ℕ → Bool

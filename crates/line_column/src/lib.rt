@@ -3,7 +3,7 @@
 ghost use mathlib.Core.Path.{_≡_};
 ghost use Prim.Native.Nat.{_+_, _-_, _≤_, _<_};
 ghost use lib.ListN.{length, getD};
-ghost use Rattle.line_column.specs.LineColumn.{endsLine, endsBefore, lineStart, lineColumnFrom};
+ghost use Rattle.line_column.specs.LineColumn.{endsLine, endsBefore, lineStart, lineColumnOn, lineColumnFrom};
 
 // A line and a column, both from 1.
 pub struct LineColumn {
@@ -85,22 +85,30 @@ fn count_back(text: &[u8], end: usize) -> usize
     end - start
 }
 
-// The line and the column of a place; a place past the text's end has those of the end. The line of another place is known: where that is not past this one, the bytes between the two are
-// all that is counted.
-pub fn line_column(text: &[u8], place: usize, known: usize, line: u32) -> LineColumn
-    ensures { λ r. ⌜ r ≡ lineColumnFrom (now (text .entry)) known line place ⌝ }
+// The line and the column of a place in the text, told those of one at or before it: the bytes between the two are all that is looked at.
+fn count_on(text: &[u8], start: usize, line: u32, column: u32, end: usize) -> LineColumn
+    requires { ⌜ (start ≤ end) × (end ≤ length (now text)) ⌝ }
+    ensures { λ r. ⌜ r ≡ lineColumnOn (now (text .entry)) start line column end ⌝ }
+{
+    let count = count_breaks(text, start, end);
+    let line = line as usize + count;
+    let mut column = column as usize + (end - start);
+    if 0 < count {
+        column = count_back(text, end) + 1;
+    }
+    LineColumn { line, column }
+}
+
+// The line and the column of a place; a place past the text's end has those of the end. They are counted on from another place, told its own, or from the text's start if this one is before it.
+pub fn line_column(text: &[u8], place: usize, known: usize, line: u32, column: u32) -> LineColumn
+    ensures { λ r. ⌜ r ≡ lineColumnFrom (now (text .entry)) known line column place ⌝ }
 {
     let mut end = place;
     if text.len() < place {
         end = text.len();
     }
-    let mut start = known;
-    let mut first = line as usize;
     if end < known {
-        start = 0;
-        first = 1;
+        return count_on(text, 0, 1, 1, end);
     }
-    let line = count_breaks(text, start, end) + first;
-    let column = count_back(text, end) + 1;
-    LineColumn { line, column }
+    count_on(text, known, line, column, end)
 }

@@ -4,6 +4,7 @@
 use cue_book::Answer;
 use cues::CueAnswer;
 use fjs::Place;
+use line_column::LineColumn;
 ghost use mathlib.Core.Path.{_≡_};
 ghost use mathlib.Core.List.{map};
 ghost use Prim.Native.Nat.{_+_, _≤_};
@@ -63,25 +64,31 @@ fn find_cue(
     fjs::nth(&phrase[..m], copy, scratch, ordinal)
 }
 
-// Puts a cue's three entries: place, line, column. The line is counted on from a place whose line is known, and is given back for the next cue.
+// Puts a cue's three entries: place, line, column. Line and column are counted on from those of a known place, and given back for the next cue.
 fn put_entries(
     entries: &mut [u32],
     at: usize,
     text: &[u8],
     place: u32,
     known: u32,
-    line: u32,
-) -> u32
-    requires { ⌜ (at ≤ 3000) × ((length (now text) ≤ 32768) × (line ≡ lineColumn (now text) known .line)) ⌝ }
-    ensures { λ r. ⌜ (r ≡ lineColumn (now (text .entry)) place .line) × (now (entries .exit) ≡ set (set (set (now (entries .entry)) at place) (at + 1) (lineColumn (now (text .entry)) place .line)) (at + 2) (lineColumn (now (text .entry)) place .column)) ⌝ }
+    told: LineColumn,
+) -> LineColumn
+    requires { ⌜ (at ≤ 3000) × ((length (now text) ≤ 32768) × (told ≡ lineColumn (now text) known)) ⌝ }
+    ensures { λ r. ⌜ (r ≡ lineColumn (now (text .entry)) place) × (now (entries .exit) ≡ set (set (set (now (entries .entry)) at place) (at + 1) (lineColumn (now (text .entry)) place .line)) (at + 2) (lineColumn (now (text .entry)) place .column)) ⌝ }
 {
-    let spot = line_column::line_column(text, place as usize, known as usize, line);
+    let spot = line_column::line_column(
+        text,
+        place as usize,
+        known as usize,
+        told.line as u32,
+        told.column as u32,
+    );
     let line = spot.line as u32;
     let column = spot.column as u32;
     matching::store(entries, at, place);
     matching::store(entries, at + 1, line);
     matching::store(entries, at + 2, column);
-    line
+    spot
 }
 
 // Resolves cue by cue, reading the book's cues once more, up to the first one whose occurrence does not exist.
@@ -101,7 +108,7 @@ fn resolve_cues(
     let mut at = 0;
     let mut place = 0;
     let mut known = 0;
-    let mut line = 1;
+    let mut spot = LineColumn { line: 1, column: 1 };
     while index < cues {
         let cue = cues::read_cue(book, place);
         let CueAnswer::Cue {
@@ -125,7 +132,7 @@ fn resolve_cues(
                 number: index,
             };
         };
-        line = put_entries(entries, at, text, position, known, line);
+        spot = put_entries(entries, at, text, position, known, spot);
         known = position;
         index += 1;
         at += 3;

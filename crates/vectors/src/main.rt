@@ -188,7 +188,7 @@ fn lines(name: &[u8], text: &[u8]) {
     io::write_all(1, name);
     let mut place = 0;
     while place <= text.len() {
-        let spot = line_column::line_column(text, place, 0, 1);
+        let spot = line_column::line_column(text, place, 0, 1, 1);
         number(spot.line as u64);
         number(spot.column as u64);
         place += 1;
@@ -196,13 +196,14 @@ fn lines(name: &[u8], text: &[u8]) {
     io::write_all(1, b"\n");
 }
 
-// The line and the column of a place, where a line of another place is told: it counts where that is not past this one.
-fn known(place: usize, other: usize, line: u32) {
+// The line and the column of a place, where a line and a column are told of another: they count where that is not past this one.
+fn known(place: usize, other: usize, line: u32, column: u32) {
     io::write_all(1, b"known a 10 b 13 10 c 13");
     number(place as u64);
     number(other as u64);
     number(line as u64);
-    let spot = line_column::line_column(b"a\nb\r\nc\r", place, other, line);
+    number(column as u64);
+    let spot = line_column::line_column(b"a\nb\r\nc\r", place, other, line, column);
     number(spot.line as u64);
     number(spot.column as u64);
     io::write_all(1, b"\n");
@@ -223,17 +224,18 @@ fn endings() {
     lines(b" a 13 10", b"a\r\n");
 }
 
-// The line told right and wrong, of the place itself, of one before it and of one past it; and places past the text's end.
-fn lines_told() {
-    known(3, 0, 1);
-    known(3, 2, 2);
-    known(4, 4, 2);
-    known(5, 4, 2);
-    known(5, 4, 9);
-    known(6, 7, 9);
-    known(7, 6, 3);
-    known(9, 2, 2);
-    known(9, 8, 5);
+// Told right and wrong, of the place itself, of one before it and of one past it; and places past the text's end.
+fn places_told() {
+    known(3, 0, 1, 1);
+    known(3, 2, 2, 1);
+    known(4, 4, 2, 3);
+    known(5, 4, 2, 3);
+    known(5, 4, 9, 9);
+    known(4, 3, 9, 9);
+    known(6, 7, 9, 9);
+    known(7, 6, 3, 2);
+    known(9, 2, 2, 1);
+    known(9, 8, 5, 5);
 }
 
 fn main() {
@@ -248,5 +250,5 @@ fn main() {
     case(6, b"aba", b"ababa", 1281);
     kmp_bound();
     endings();
-    lines_told();
+    places_told();
 }

@@ -87,20 +87,28 @@ fn lines(text: &str) -> String {
     line(&format!("lines{}", by_bytes(text)), numbers)
 }
 
-/// The same of one place, where the line of another place is told: it counts where that is not past this one.
-fn known(text: &str, place: usize, known: usize, told: usize) -> String {
+/// The same of one place, where a line and a column are told of another place: they count where that is not past this one.
+fn known(text: &str, place: usize, known: usize, told: (usize, usize)) -> String {
     let endings = endings(text.as_bytes());
     let end = place.min(text.len());
-    let (own, column) = line_and_column(&endings, end);
-    let counted = if known <= end { told + own - line_and_column(&endings, known).0 } else { own };
-    line(&format!("known{}", by_bytes(text)), [place, known, told, counted, column])
+    let own = line_and_column(&endings, end);
+    let before = line_and_column(&endings, known.min(end));
+    let (lines, column) = match own.0 - before.0 {
+        _ if known > end => own,
+        0 => (told.0, told.1 + end - known),
+        lines => (told.0 + lines, own.1),
+    };
+    line(&format!("known{}", by_bytes(text)), [place, known, told.0, told.1, lines, column])
 }
 
 fn line_rule() -> String {
     let texts = ["", "ab", "a\nb", "a\rb", "a\r\nb", "a\r\r\nb", "a\n\rb", "\r\n\r\n", "a\n", "a\r", "a\r\n"].map(lines);
-    let all = "a\nb\r\nc\r";
-    let told = [(3, 0, 1), (3, 2, 2), (4, 4, 2), (5, 4, 2), (5, 4, 9), (6, 7, 9), (7, 6, 3), (9, 2, 2), (9, 8, 5)];
-    texts.concat() + &told.map(|(place, other, line)| known(all, place, other, line)).concat()
+    let told = [
+        [(3, 0, (1, 1)), (3, 2, (2, 1)), (4, 4, (2, 3)), (5, 4, (2, 3)), (5, 4, (9, 9))],
+        [(4, 3, (9, 9)), (6, 7, (9, 9)), (7, 6, (3, 2)), (9, 2, (2, 1)), (9, 8, (5, 5))],
+    ];
+    let told = told.concat().into_iter().map(|(place, other, told)| known("a\nb\r\nc\r", place, other, told));
+    texts.concat() + &told.collect::<String>()
 }
 
 #[test]

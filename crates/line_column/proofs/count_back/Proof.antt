@@ -8,7 +8,7 @@ use mathlib.Core.List.{List}
 use lib.ListN.{getD}
 use Rattle.matching.proofs.CaseAnalysis.{at-same}
 use Rattle.line_column.specs.LineColumn.{endsLine, lineStart}
-use Rattle.line_column.proofs.Lines.{ends-at, ends-not, ends-start}
+use Rattle.line_column.proofs.Endings.{ends-at, ends-not, ends-start}
 use Rattle.line_column.proofs.count_back.Statement.{statement}
 use Rattle.line_column.proofs.count_back.Tie as tie
 

@@ -7,7 +7,7 @@ use native.Mathlib.Omega.{arith}
 use native.Mathlib.Numerals.{add-one}
 use lib.ListN.{getD}
 use Rattle.line_column.specs.LineColumn.{endsLine, endsBefore}
-use Rattle.line_column.proofs.Lines.{ends-at, ends-not}
+use Rattle.line_column.proofs.Endings.{ends-at, ends-not}
 use Rattle.line_column.proofs.count_block.Statement.{statement}
 use Rattle.line_column.proofs.count_block.Tie as tie
 

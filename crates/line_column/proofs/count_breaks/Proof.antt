@@ -7,7 +7,7 @@ use mathlib.Core.List.{List}
 use lib.ListN.{getD}
 use Rattle.matching.proofs.CaseAnalysis.{at-same}
 use Rattle.line_column.specs.LineColumn.{endsLine, endsBefore}
-use Rattle.line_column.proofs.Lines.{ends-at, ends-not, ends-few}
+use Rattle.line_column.proofs.Endings.{ends-at, ends-not, ends-few}
 use Rattle.line_column.proofs.count_breaks.Statement.{statement}
 use Rattle.line_column.proofs.count_breaks.Tie as tie
 

@@ -1,4 +1,4 @@
--- `resolver::put_entries` meets its contract: three entries, one after another, and the line that was counted on is the place's. Assumes nothing.
+-- `resolver::put_entries` meets its contract: three entries, one after another, and what was counted on is the place's. Assumes nothing.
 use borrow.Author.Needs.{needs}
 use mathlib.Core.Path.{_≡_, ap, ap₂, _∙_}
 use mathlib.Core.List.{List}
@@ -11,23 +11,33 @@ use Rattle.line_column.proofs.Lines.{line-known, line-small, column-small}
 use Rattle.resolver.proofs.put_entries.Statement.{statement}
 use Rattle.resolver.proofs.put_entries.Tie as tie
 
-line-column-requires : tie.Need-line-column-requires
-line-column-requires c κs = search needs
+-- where the call came in
+abbrev called : tie.After-line-column → tie.Start
+called k = k .before .before .before .before .before
 
 -- the line and the column of the place
-spot : (k : tie.After-line-column) → let a = k .before .before .before .args in k .line-column .result ≡ lineColumn (a .text .now) (a .place)
-spot k = let s = k .before .before .before in k .line-column .ensures ∙ line-known (s .args .text .now) (s .args .known) (s .args .line) (s .args .place) (s .pre .1 .1)
+spot : (k : tie.After-line-column) → k .line-column .result ≡ lineColumn (called k .args .text .now) (called k .args .place)
+spot k = let s = called k in k .line-column .ensures ∙ line-known (s .args .text .now) (s .args .known) (s .args .place) (s .pre .1 .1)
+
+cast-line-column : tie.Need-cast-line-column
+cast-line-column c = let s = c .before .before .before in omega (arith, ap (λ (x : LineColumn). x .line) (s .pre .1 .1), line-small (s .args .text .now) (s .args .known), s .pre .1 .0)
+
+cast-line-column-2 : tie.Need-cast-line-column-2
+cast-line-column-2 c = let s = c .before .before .before .before in omega (arith, ap (λ (x : LineColumn). x .column) (s .pre .1 .1), column-small (s .args .text .now) (s .args .known), s .pre .1 .0)
+
+line-column-requires : tie.Need-line-column-requires
+line-column-requires c κs = search needs
 
 cast-line : tie.Need-cast-line
 cast-line c =
     let k = c .before in
-    let s = k .before .before .before in
+    let s = called k in
     omega (arith, ap (λ (x : LineColumn). x .line) (spot k), line-small (s .args .text .now) (s .args .place), s .pre .1 .0)
 
 cast-column : tie.Need-cast-column
 cast-column c =
     let k = c .before .before in
-    let s = k .before .before .before in
+    let s = called k in
     omega (arith, ap (λ (x : LineColumn). x .column) (spot k), column-small (s .args .text .now) (s .args .place), s .pre .1 .0)
 
 store-requires : tie.Need-store-requires
@@ -54,9 +64,9 @@ returns c =
     let second = third .before .before .before .before in
     let first = second .before .before .before .before in
     let k = first .before .before .before .before in
-    let a = k .before .before .before .args in
+    let a = called k .args in
     let line = ap (λ (x : LineColumn). x .line) (spot k) in (
-      line,
+      spot k,
       third .store3 .ensures
           ∙ ap₂ (λ (l : List ℕ) (v : ℕ). set l (a .at + 2) v)
           (second .store2 .ensures ∙ ap₂ (λ (l : List ℕ) (v : ℕ). set l (a .at + 1) v) (first .store .ensures) line)
@@ -67,6 +77,8 @@ pub put-entries-spec : {M : Type 1} → statement M
 put-entries-spec =
     tie.close
     (tie.spec
+    cast-line-column
+    cast-line-column-2
     line-column-requires
     cast-line
     cast-column

@@ -1,7 +1,7 @@
 -- `resolver::resolve_cues` meets its contract. The loop's invariant: the entries of the cues so far are put, and they and what the rest resolves to are the whole (`Along`); phrase buffer and
--- scratch keep their lengths, and the known line is that of the known place. Assumes nothing.
+-- scratch keep their lengths, and line and column are those of the known place. Assumes nothing.
 use borrow.Author.Needs.{needs}
-use mathlib.Core.Path.{_≡_, refl, sym, ap, ap₂, _∙_}
+use mathlib.Core.Path.{_≡_, refl, ap, ap₂, _∙_}
 use mathlib.Core.List.{List, map}
 use Prim.Native.Nat.{ℕ, _-_, _≤_}
 use native.Mathlib.Omega.{arith}
@@ -23,11 +23,11 @@ use Rattle.resolver.proofs.resolve_cues.Statement.{statement}
 use Rattle.resolver.proofs.resolve_cues.Tie as tie
 
 abbrev Inv-loop : tie.InvT-loop
-Inv-loop book count text copy phrase₀ scratch₀ entries₀ index₀ at₀ place₀ known₀ line₀ phrase scratch entries index at place known line =
-    Along book text (cuesIn (readBook book)) entries₀ index at place entries × ((length phrase ≡ length phrase₀) × ((length scratch ≡ length scratch₀) × (line ≡ lineColumn text known .line)))
+Inv-loop book count text copy phrase₀ scratch₀ entries₀ index₀ at₀ place₀ known₀ spot₀ phrase scratch entries index at place known spot =
+    Along book text (cuesIn (readBook book)) entries₀ index at place entries × ((length phrase ≡ length phrase₀) × ((length scratch ≡ length scratch₀) × (spot ≡ lineColumn text known)))
 
 abbrev μ-loop : tie.MeasureT-loop
-μ-loop book count text copy phrase₀ scratch₀ entries₀ index₀ at₀ place₀ known₀ line₀ phrase scratch entries index at place known line =
+μ-loop book count text copy phrase₀ scratch₀ entries₀ index₀ at₀ place₀ known₀ spot₀ phrase scratch entries index at place known spot =
     count - index
 
 -- the places of this proof: where the call came in, the loop's turn, the cue that was read in it, the occurrence that was looked for, and the entries that were put
@@ -93,7 +93,7 @@ found f =
     ∙ ap (λ (T : List ℕ). nthOf (occurrences (map folded (c .phrase)) T) (c .ordinal)) (s .pre .copied)
 
 loop-holds : tie.Need-loop-holds Inv-loop μ-loop
-loop-holds c = let s = c .before .before .before .before .before .before in let a = s .args in (along-first (a .book .now) (a .text .now) (cuesIn (readBook (a .book .now))) (a .entries .now) (s .pre .read), (refl, (refl, sym (line-first (a .text .now)))))
+loop-holds c = let s = c .before .before .before .before .before .before in let a = s .args in (along-first (a .book .now) (a .text .now) (cuesIn (readBook (a .book .now))) (a .entries .now) (s .pre .read), (refl, (refl, line-first (a .text .now))))
 
 read-cue-requires : tie.Need-read-cue-requires Inv-loop μ-loop
 read-cue-requires c κs = search needs
