@@ -4,6 +4,7 @@ use crate::lent::{dirt, Lent, Shown};
 use crate::Faults;
 use libretto::{find_raw, RawFinding};
 use std::cell::RefCell;
+use std::ops::RangeInclusive;
 
 /// Memory for one call of the library and one of the reference, kept between calls.
 #[derive(Default)]
@@ -70,6 +71,9 @@ fn bound(method: u32, m: usize, n: usize) -> Option<usize> {
         _ => None,
     }
 }
+
+/// The numbers of the methods; the next one is no method.
+pub const METHODS: RangeInclusive<u32> = 0..=5;
 
 /// The scratch entries that a method needs (document 01's table, and document 02, (v), for method 5), and 300 for a number that is no method.
 pub fn needed(method: u32, m: usize) -> usize {

@@ -16,7 +16,7 @@ pub mod verses;
 pub mod words;
 
 pub use cue_book::{compare_book, compare_cue, compare_field, compare_write};
-pub use find::{compare, needed};
+pub use find::{compare, needed, METHODS};
 pub use fold::compare_fold;
 pub use resolver::{compare_resolve, Lengths};
 pub use words::Random;
@@ -55,8 +55,8 @@ impl Faults {
 }
 
 /// Prints how many calls this test compared, and fails if there were fewer than it is meant to compare.
-pub fn report(test: &str, at_least: u64) {
+pub fn report(test: &str, at_least: usize) {
     let here = COMPARED_HERE.with(Cell::get);
     println!("{test}: {here} compared calls ({} so far in this program)", COMPARED.load(Ordering::Relaxed));
-    assert!(here >= at_least, "{test} compared {here} calls, fewer than {at_least}");
+    assert!(here >= at_least as u64, "{test} compared {here} calls, fewer than {at_least}");
 }

@@ -3,7 +3,7 @@
 
 use libretto::{find, Finding, Method};
 use libretto_tests::words::all_words;
-use libretto_tests::{compare, needed, report, Random};
+use libretto_tests::{compare, needed, report, Random, METHODS};
 
 #[test]
 fn aba_in_letters_a() {
@@ -98,9 +98,9 @@ fn near_the_bound() {
             let place = random.below(n);
             text[place] = b'b';
         }
-        for method in 0..=5 {
+        for method in METHODS {
             compare(method, &phrase, &text, needed(method, m), n, random.next());
         }
     }
-    report("near_the_bound", 24_000);
+    report("near_the_bound", 4000 * METHODS.count());
 }

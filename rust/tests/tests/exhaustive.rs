@@ -1,14 +1,14 @@
 //! Every short phrase in every short text, by all methods.
 
 use libretto_tests::words::all_words;
-use libretto_tests::{compare, needed, report};
+use libretto_tests::{compare, needed, report, METHODS};
 
 /// Every phrase of 1 to `longest_phrase` letters in every text of 0 to `longest_text` letters.
 fn all_pairs(letters: usize, longest_phrase: usize, longest_text: usize) {
     let texts: Vec<Vec<u8>> = (0..=longest_text).flat_map(|length| all_words(letters, length)).collect();
     let mut seed = 0;
     for phrase in (1..=longest_phrase).flat_map(|length| all_words(letters, length)) {
-        for method in 0..=5 {
+        for method in METHODS {
             for text in &texts {
                 // Scratch with and without entries past the tables; a list with entries past the places.
                 compare(method, &phrase, text, needed(method, phrase.len()) + (seed % 3) as usize, text.len() + 1, seed);
@@ -36,11 +36,11 @@ fn double_window_by_an_absent_letter() {
 #[test]
 fn two_letters() {
     all_pairs(2, 4, 9);
-    report("two_letters", 30 * 1023 * 6);
+    report("two_letters", 30 * 1023 * METHODS.count());
 }
 
 #[test]
 fn three_letters() {
     all_pairs(3, 3, 6);
-    report("three_letters", 39 * 1093 * 6);
+    report("three_letters", 39 * 1093 * METHODS.count());
 }

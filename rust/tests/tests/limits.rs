@@ -2,13 +2,14 @@
 //! compared call, without the reference.
 
 use libretto::{find_raw, Refusal};
-use libretto_tests::{compare, needed, report, Random};
+use libretto_tests::{compare, needed, report, Random, METHODS};
 
-const METHODS: [u32; 9] = [0, 1, 2, 3, 4, 5, 6, 7, u32::MAX];
+/// Numbers that are no method.
+const UNKNOWN: [u32; 3] = [*METHODS.end() + 1, *METHODS.end() + 2, u32::MAX];
 
 /// The refusal by the words of the table, 0 for none.
 fn due(method: u32, m: usize, n: usize, scratch_len: usize) -> u32 {
-    if method > 5 {
+    if UNKNOWN.contains(&method) {
         Refusal::UnknownMethod.number()
     } else if m == 0 {
         Refusal::NoPhrase.number()
@@ -27,7 +28,7 @@ fn due(method: u32, m: usize, n: usize, scratch_len: usize) -> u32 {
 fn every_limit_with_every_other() {
     let mut random = Random::new(8);
     let letters = random.word(4, 40_000);
-    for method in METHODS {
+    for method in METHODS.chain(UNKNOWN) {
         for m in [0, 1, 2, 1023, 1024, 1025, 3000] {
             // The phrase stands in the text, where that is long enough.
             let phrase = &letters[20..20 + m];
@@ -42,7 +43,7 @@ fn every_limit_with_every_other() {
             }
         }
     }
-    report("every_limit_with_every_other", 9 * 7 * 11 * 5 * 3);
+    report("every_limit_with_every_other", METHODS.chain(UNKNOWN).count() * 7 * 11 * 5 * 3);
 }
 
 #[test]
@@ -52,7 +53,7 @@ fn phrase_longer_than_text() {
         let phrase = random.word(2, m);
         for n in [0, 1, 2, m / 2, m - 1] {
             if n < m {
-                for method in 0..=5 {
+                for method in METHODS {
                     let raw = compare(method, &phrase, &phrase[..n], needed(method, m) + 2, 5, random.next());
                     assert_eq!((raw.refusal, raw.total, raw.comparisons), (0, 0, 0));
                 }
@@ -76,7 +77,7 @@ fn every_list_length() {
         (b"abc", b"ab"),
     ];
     for (phrase, text) in cases {
-        for method in 0..=5 {
+        for method in METHODS {
             let total = compare(method, phrase, text, needed(method, phrase.len()), text.len(), 0);
             for list_len in 0..=total.total as usize + 1 {
                 let raw = compare(method, phrase, text, needed(method, phrase.len()), list_len, random.next());
@@ -93,7 +94,7 @@ fn every_scratch_length() {
     for m in 1..=12 {
         let phrase = random.word(2, m);
         let text = [&phrase[..], &random.word(2, 30), &phrase].concat();
-        for method in 0..=5 {
+        for method in METHODS {
             let enough = needed(method, m);
             let lengths: Vec<usize> = match method {
                 0 => vec![0, 1, 2],
@@ -115,7 +116,7 @@ fn earlier_values_play_no_part() {
     for m in [1, 2, 5, 30] {
         let text = random.word(2, 300);
         let phrase = &text[100..100 + m];
-        for method in 0..=5 {
+        for method in METHODS {
             let first = compare(method, phrase, &text, needed(method, m), 300, 0);
             for seed in 1..20 {
                 assert_eq!(compare(method, phrase, &text, needed(method, m), 300, seed * 97), first);
@@ -134,8 +135,10 @@ fn empty_slices_of_no_buffer() {
     assert_eq!(empty(0, &[], &[]), (2, 0, 0));
     assert_eq!(empty(0, b"a", &[]), (0, 0, 0));
     assert_eq!(empty(0, b"a", b"aab"), (0, 2, 3));
-    for method in 1..=5 {
+    for method in METHODS.skip(1) {
         assert_eq!(empty(method, b"a", &[]), (5, 0, 0));
     }
-    assert_eq!(empty(6, &[], &[]), (1, 0, 0));
+    for method in UNKNOWN {
+        assert_eq!(empty(method, &[], &[]), (1, 0, 0));
+    }
 }

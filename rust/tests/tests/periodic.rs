@@ -1,7 +1,7 @@
 //! Periodic and Fibonacci texts with phrases cut from them: many part matches, borders and overlaps.
 
 use libretto_tests::words::{fibonacci, periodic};
-use libretto_tests::{compare, needed, report, Random};
+use libretto_tests::{compare, needed, report, Random, METHODS};
 
 const PERIODS: [&[u8]; 7] = [b"a", b"ab", b"aab", b"abb", b"abac", b"aaaab", b"abaab"];
 
@@ -35,7 +35,7 @@ fn phrases(text: &[u8], m: usize) -> Vec<Vec<u8>> {
 }
 
 fn all_methods(phrase: &[u8], text: &[u8], random: &mut Random) {
-    for method in 0..=5 {
+    for method in METHODS {
         let list_len = if random.below(4) == 0 { random.below(20) } else { text.len() + 1 };
         compare(method, phrase, text, needed(method, phrase.len()) + random.below(3), list_len, random.next());
     }
@@ -87,5 +87,5 @@ fn longest_texts() {
             all_methods(&changed, &text, &mut random);
         }
     }
-    report("longest_texts", 9 * 4 * 2 * 6);
+    report("longest_texts", 9 * 4 * 2 * METHODS.count());
 }

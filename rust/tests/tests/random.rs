@@ -1,7 +1,7 @@
 //! Random phrases and texts over alphabets of 1, 2, 4, 26 and 256 letters, by all methods. That method 1 makes at most 2n - m comparisons and method 4 at
 //! most 3n - 2m is tested in every compared call.
 
-use libretto_tests::{compare, needed, report, Random};
+use libretto_tests::{compare, needed, report, Random, METHODS};
 
 /// A text length: mostly short, sometimes long.
 fn text_length(random: &mut Random) -> usize {
@@ -40,7 +40,7 @@ fn over(letters: usize, test: &str) {
         let length = text_length(&mut random);
         let text = random.word(letters, length);
         let phrase = phrase(&mut random, letters, &text);
-        for method in 0..=5 {
+        for method in METHODS {
             let scratch_len = needed(method, phrase.len()) + random.below(4);
             let list_len = match random.below(4) {
                 0 => 0,
@@ -50,7 +50,7 @@ fn over(letters: usize, test: &str) {
             compare(method, &phrase, &text, scratch_len, list_len, random.next());
         }
     }
-    report(test, pairs * 6);
+    report(test, pairs * METHODS.count());
 }
 
 #[test]
@@ -95,7 +95,7 @@ fn long_texts() {
                     if letters == 1 && (change || (m > 100 && length < 32_768)) {
                         continue;
                     }
-                    for method in 0..=5 {
+                    for method in METHODS {
                         compare(method, &phrase, &text, needed(method, m) + 1, length + 1, random.next());
                     }
                 }
