@@ -171,6 +171,12 @@ module _ {e : Engine} {P T list₀ : List ℕ} {s q total compared : ℕ} {list 
         let n : equalDown P T s count < count = omega (arith, d .is) in
         missed-as is (omega (arith, d .is, looks-part count (equalDown P T s count) n)) (ne-eqb (equalDown P T s count) count (λ f. omega arith))
 
+-- one window done, and moved by d with nothing carried: the engine is past it, and within the text
+pub record Stepped (e : Engine) (P T list₀ : List ℕ) (s d total compared : ℕ) (list : List ℕ) : Type 0 where
+  pub progress : Progress e P T list₀ (at (s + d) 0) total compared list
+  pub ahead : 1 ≤ d
+  pub fits : s + d ≤ length T
+
 -- ---- the counters stay small: a total of at most n + 1, and at most m comparisons for each of n + 1 windows
 
 pub run-small : {w : Steps} {P T : List ℕ} → Sound w P T → length P ≤ 1024 → length T ≤ 32768 → comparedIn (run w P T) ≤ 33555456

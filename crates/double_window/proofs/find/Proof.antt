@@ -9,7 +9,7 @@ use lib.ListN.{length, getD}
 use Rattle.matching.specs.Machine.{at}
 use Rattle.matching.proofs.Letters.{Downward, down-compared}
 use Rattle.matching.proofs.Find.{found-refused}
-use Rattle.matching.proofs.Progress.{Accepted, accepted, Progress, begins, missed, hit-down, miss-down, total-small, compared-small, same-list, past, keeps}
+use Rattle.matching.proofs.Progress.{Accepted, accepted, Progress, begins, missed, hit-down, miss-down, Stepped, total-small, compared-small, same-list, past, keeps}
 use Rattle.tables.proofs.Tables.{Filled, Reads}
 use Rattle.letter_tables.specs.BadCharacter.{horspoolEntry}
 use Rattle.letter_tables.specs.Moves.{horspoolMove}
@@ -84,16 +84,10 @@ equal c = omega (arith, c .before .if2 .taken)
 zero : (c : tie.After-compare-down Inv-loop μ-loop) → let l = c .before .before .before .before in let t = maker l in jump (P t) (T t) (l .loop .s) ≡ 0
 zero c = let l = c .before .before .before .before in let t = maker l in jump-zero (P t) (T t) (l .loop .s) (l .loop .inv .0 .sound .some) (equal c)
 
--- one window done: the engine is past it, and within the text
-record Stepped (P T list₀ : List ℕ) (s d total compared : ℕ) (list : List ℕ) : Type 0 where
-  progress : Progress doubleWindow P T list₀ (at (s + d) 0) total compared list
-  ahead : 1 ≤ d
-  fits : s + d ≤ length T
-
 -- and the window moves by that letter's entry
 compared-down : (c : tie.After-compare-down Inv-loop μ-loop) {total compared : ℕ} {list : List ℕ} → let l = c .before .before .before .before in let t = maker l in
     Progress doubleWindow (P t) (T t) (L t) (horspoolMove (P t) (T t) (l .loop .s)) total compared list
-    → Stepped (P t) (T t) (L t) (l .loop .s) (getD (t .horspool-table .last .1 .0) (getD (P t) (length (P t) - 1) 0) 0) total compared list
+    → Stepped doubleWindow (P t) (T t) (L t) (l .loop .s) (getD (t .horspool-table .last .1 .0) (getD (P t) (length (P t) - 1) 0) 0) total compared list
 compared-down c p =
     let l = c .before .before .before .before in
     let t = maker l in
@@ -105,7 +99,7 @@ compared-down c p =
     }
 
 stepped : (j : tie.Joined2 Inv-loop μ-loop)
-    → let l = j .before .before .before in let t = maker l in Stepped (P t) (T t) (L t) (l .loop .s) (j .if2 .shift) (j .if2 .total) (j .if2 .compared) (j .if2 .list)
+    → let l = j .before .before .before in let t = maker l in Stepped doubleWindow (P t) (T t) (L t) (l .loop .s) (j .if2 .shift) (j .if2 .total) (j .if2 .compared) (j .if2 .list)
 stepped j =
     let l = j .before .before .before in
     let t = maker l in
