@@ -51,27 +51,34 @@ pub border-letter : (P : List ℕ) (q k : ℕ) → k ≤ q → Border P (suc q) 
 unfolding Border
 border-letter P q k h b = b k (omega arith) ∙ at-same P (omega arith)
 
--- ---- what the rule's test says
+-- ---- what the rule's tests say
 
-pub strong-border : (P : List ℕ) (q k : ℕ) → k ≤ q → q ≤ length P → strong P q k ≡ true → Border P q k
-unfolding strong border Border
-strong-border P q k h l e i j =
-    let same : take k P ≡ drop (q - k) (take q P) = same-true _ _ (both (same (take k P) (drop (q - k) (take q P))) _ e .0) in
+pub border-says : (P : List ℕ) (q k : ℕ) → k ≤ q → q ≤ length P → border P q k ≡ true → Border P q k
+unfolding border Border
+border-says P q k h l e i j =
+    let same : take k P ≡ drop (q - k) (take q P) = same-true _ _ e in
     sym (getD-take k P i 0 j) ∙ ap (λ (x : List ℕ). getD x i 0) same ∙ getD-drop (q - k) (take q P) i 0 ∙ getD-take q P (q - k + i) 0 (omega arith)
 
-pub strong-differs : (P : List ℕ) (q k : ℕ) → q < length P → strong P q k ≡ true → getD P k 0 ≡ getD P q 0 → ⊥
-unfolding strong border
-strong-differs P q k l e =
-    eqb-false (getD P k 0) (getD P q 0)
-    (not-true _ (either (eqb q (length P)) _ (both (same (take k P) (drop (q - k) (take q P))) _ e .1) (ne-eqb q (length P) (λ d. omega arith))))
-
-pub border-strong : (P : List ℕ) (q k : ℕ) → k ≤ q → q ≤ length P → Border P q k → (q < length P → getD P k 0 ≡ getD P q 0 → ⊥) → strong P q k ≡ true
-unfolding strong border Border
-border-strong P q k h l same differ =
-    let border : take k P ≡ drop (q - k) (take q P) =
-    ext-getD 0 (take k P) (drop (q - k) (take q P)) (simp (length-take, length-drop) (omega arith))
+pub says-border : (P : List ℕ) (q k : ℕ) → k ≤ q → q ≤ length P → Border P q k → border P q k ≡ true
+unfolding border Border
+says-border P q k h l same =
+    eq-same
+    (ext-getD 0 (take k P) (drop (q - k) (take q P)) (simp (length-take, length-drop) (omega arith))
     (λ i j.
     let i< : i < k = omega (arith, length-take k P) in
-    getD-take k P i 0 i< ∙ same i i< ∙ sym (getD-drop (q - k) (take q P) i 0 ∙ getD-take q P (q - k + i) 0 (omega arith))) in
-    rw (eq-same border)
+    getD-take k P i 0 i< ∙ same i i< ∙ sym (getD-drop (q - k) (take q P) i 0 ∙ getD-take q P (q - k + i) 0 (omega arith))))
+
+pub strong-border : (P : List ℕ) (q k : ℕ) → k ≤ q → q ≤ length P → strong P q k ≡ true → Border P q k
+unfolding strong
+strong-border P q k h l e = border-says P q k h l (both (border P q k) _ e .0)
+
+pub strong-differs : (P : List ℕ) (q k : ℕ) → q < length P → strong P q k ≡ true → getD P k 0 ≡ getD P q 0 → ⊥
+unfolding strong
+strong-differs P q k l e =
+    eqb-false (getD P k 0) (getD P q 0) (not-true _ (either (eqb q (length P)) _ (both (border P q k) _ e .1) (ne-eqb q (length P) (λ d. omega arith))))
+
+pub border-strong : (P : List ℕ) (q k : ℕ) → k ≤ q → q ≤ length P → Border P q k → (q < length P → getD P k 0 ≡ getD P q 0 → ⊥) → strong P q k ≡ true
+unfolding strong
+border-strong P q k h l same differ =
+    rw (says-border P q k h l same)
     (by-test (λ t. t || not (eqb (getD P k 0) (getD P q 0)) ≡ true) (eqb q (length P)) (λ _. refl) (λ e. rw (ne-eqb (getD P k 0) (getD P q 0) (differ (omega (arith, eqb-false q (length P) e))))))

@@ -1,5 +1,5 @@
--- The KMP entries, from their rule alone: what the rule says letter by letter (`Entry`), that it fixes the entry, and how each entry follows from those
--- before it, as the table maker finds them. Assumes nothing.
+-- The KMP entries and the longest proper border, from their rules alone: what a rule says letter by letter (`Entry`, `Longest`), that it fixes the entry, and how each entry
+-- follows from those before it, as the table maker finds them. Assumes nothing.
 use mathlib.Core.Path.{_≡_, sym, _∙_}
 use Prim.Native.Nat.{ℕ, zero, suc, _+_, _-_, _≤_, _<_}
 use native.Mathlib.Omega.{arith}
@@ -10,9 +10,9 @@ use lib.Dec.{eqb, ltb}
 use borrow.Author.Tests.{eqb-true, eqb-false, ltb-true, ltb-false}
 use Rattle.matching.proofs.CaseAnalysis.{by-test, at-same}
 use Rattle.tables.specs.Tables.{largest, Entries}
-use Rattle.border_tables.specs.Kmp.{strong, kmpEntry, kmpMade}
+use Rattle.border_tables.specs.Kmp.{border, longestBorder, strong, kmpEntry, kmpMade}
 use Rattle.tables.proofs.Tables.{largest-le, largest-none, largest-holds, largest-is, Filled, filled, Reads}
-use Rattle.border_tables.proofs.Borders.{Border, border-zero, border-trans, border-nested, border-more, border-less, border-letter, strong-border, strong-differs, border-strong}
+use Rattle.border_tables.proofs.Borders.{Border, border-zero, border-trans, border-nested, border-more, border-less, border-letter, border-says, says-border, strong-border, strong-differs, border-strong}
 
 -- ---- the rule letter by letter, for b = b[q + 1]
 
@@ -53,6 +53,33 @@ kmp-filled P h l e = filled (length P) (length P + 1) (kmpEntry P) h (omega arit
 pub kmp-reads : (P : List ℕ) {table : List ℕ} {a p q : ℕ} → Entries a (length P + 1) (kmpEntry P) table → q ≤ length P → p ≡ a + q → Reads (getD table p 0) (kmpEntry P q) 0 q
 kmp-reads P {q = q} t h is = let e = t .entry q (omega arith) is in record { is = e; least = omega arith; most = omega (arith, kmpEntry-le P q) }
 
+-- ---- the longest proper border
+
+-- j is 1 more than the longest proper border of the first q letters; 0 where q is 0
+pub record Longest (P : List ℕ) (q j : ℕ) : Type 0 where
+  pub low : j ≤ q
+  pub border : 1 ≤ j → Border P q (j - 1)
+  pub above : (k : ℕ) → j ≤ k → k < q → Border P q k → ⊥
+
+-- the empty border is one, so there is a longest
+pub longestBorder-rule : (P : List ℕ) → 1 ≤ length P → Longest P (length P) (suc (longestBorder P))
+unfolding longestBorder
+longestBorder-rule P h =
+    let m : ℕ = length P in
+    let j : ℕ = largest m (border P m) in
+    let le : j ≤ m = largest-le m (border P m) in
+    let some : 1 ≤ j =
+    by-test (λ _. 1 ≤ j) (eqb j 0)
+    (λ t. absurd (true≢false (sym (says-border P m 0 (omega arith) (omega arith) (border-zero P m)) ∙ largest-none m (border P m) 0 (omega (arith, eqb-true j 0 t)) h)))
+    (λ t. omega (arith, eqb-false j 0 t)) in
+    let z : suc (j - 1) ≡ j = omega arith in
+    rw z
+    (record {
+      low = le;
+      border = λ l. border-says P m (j - 1) (omega arith) (omega arith) (largest-holds m (border P m) l);
+      above = λ k l s b. true≢false (sym (says-border P m k (omega arith) (omega arith) b) ∙ largest-none m (border P m) k l s);
+    })
+
 -- ---- how the maker finds an entry
 
 -- j is 0 or 1 more than a border of the first q letters; no longer proper border has letter q + 1 after it
@@ -60,12 +87,6 @@ pub record Chain (P : List ℕ) (q j : ℕ) : Type 0 where
   pub low : j ≤ q
   pub border : 1 ≤ j → Border P q (j - 1)
   pub above : (k : ℕ) → j ≤ k → k < q → Border P q k → getD P k 0 ≡ getD P q 0 → ⊥
-
--- j is 1 more than the longest proper border of the first q letters; 0 where q is 0
-pub record Longest (P : List ℕ) (q j : ℕ) : Type 0 where
-  pub low : j ≤ q
-  pub border : 1 ≤ j → Border P q (j - 1)
-  pub above : (k : ℕ) → j ≤ k → k < q → Border P q k → ⊥
 
 pub chain-start : (P : List ℕ) → Chain P 0 0
 chain-start P = record { low = omega arith; border = λ h. absurd (omega arith); above = λ k h l. absurd (omega arith) }

@@ -1,5 +1,6 @@
--- What engines cite of the KMP table: a move by its rule goes on, passes over no occurrence, and carries letters that are equal (`Moves`, of the window machine).
--- And what such a move pays for the looks of its window (`Paid`, `Pays`). All of it is shown from the rule alone, never from how the table is filled. Assumes nothing.
+-- What engines cite of borders: a move by KMP's rule, or after an occurrence by the longest proper border, goes on, passes over no occurrence, and carries letters that are
+-- equal (`Moves`, of the window machine).
+-- And what KMP's move pays for the looks of its window (`Paid`, `Pays`). All of it is shown from the rule alone, never from how the table is filled. Assumes nothing.
 use mathlib.Core.Path.{_≡_, sym, ap, ap₂, subst, _∙_}
 use Prim.Native.Nat.{ℕ, suc, _+_, _-_, _*_, _≤_, _<_}
 use native.Mathlib.Omega.{arith}
@@ -12,14 +13,14 @@ use Rattle.matching.specs.Find.{Engine}
 use Rattle.matching.proofs.CaseAnalysis.{at-same}
 use Rattle.matching.proofs.Occurrences.{Stands}
 use Rattle.matching.proofs.Letters.{Meets, reach-le, reach-meets, reach-differs, looks-le, looks-few}
-use Rattle.matching.proofs.Machine.{Carries, Moves}
+use Rattle.matching.proofs.Machine.{Carries, carries-none, Moves}
 use Rattle.matching.proofs.Costs.{Paid, Pays}
 use Rattle.matching.proofs.Progress.{Progress}
 use Rattle.tables.proofs.Tables.{Reads}
-use Rattle.border_tables.specs.Kmp.{kmpEntry}
-use Rattle.border_tables.specs.Moves.{kmpMove}
+use Rattle.border_tables.specs.Kmp.{longestBorder, kmpEntry}
+use Rattle.border_tables.specs.Moves.{kmpMove, borderMove}
 use Rattle.border_tables.proofs.Borders.{Border}
-use Rattle.border_tables.proofs.Kmp.{kmpEntry-le, kmpEntry-rule}
+use Rattle.border_tables.proofs.Kmp.{kmpEntry-le, kmpEntry-rule, longestBorder-rule}
 
 -- where the first r letters of the window are equal, and the next, if there is one, is not
 
@@ -84,3 +85,17 @@ pub kmp-goes : {e : Engine} {P T list₀ list : List ℕ} {total compared : ℕ}
     → Progress e P T list₀ (at (s + (k + 1 - b)) q) total compared list
 kmp-goes {e} {P} {T} {list₀} {list} {total} {compared} s k {b} {q} p r c =
     subst (λ x. Progress e P T list₀ x total compared list) (kmp-next P s k b (s + (k + 1 - b)) q (r .is) (omega (arith, r .most)) c) p
+
+-- ---- after an occurrence
+
+-- an occurrence at k before the next window would make the s + m - k letters that both have in common a longer proper border
+border-safe : (P T : List ℕ) (s : ℕ) → 1 ≤ length P → Stands P T s → (k : ℕ) → s < k → k < s + (length P - longestBorder P) → Stands P T k → ⊥
+unfolding Border
+border-safe P T s h here k l b there =
+    longestBorder-rule P h .above (s + length P - k) (omega arith) (omega arith)
+    (λ i j. there .letters i (omega arith) ∙ at-same T {j = s + (length P - (s + length P - k) + i)} (omega arith) ∙ sym (here .letters (length P - (s + length P - k) + i) (omega arith)))
+
+pub border-moves : (P T : List ℕ) (s : ℕ) → 1 ≤ length P → Stands P T s → Moves P T s (borderMove P s)
+unfolding borderMove
+border-moves P T s h here =
+    record { ahead = omega (arith, longestBorder-rule P h .low); skips = border-safe P T s h here; hands = carries-none P T (s + (length P - longestBorder P)) h }

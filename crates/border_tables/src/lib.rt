@@ -1,4 +1,4 @@
-// The table by borders: KMP's maker, which writes only its own entries into a lent table of 16-bit numbers.
+// The table by borders: KMP's maker, which writes only its own entries into a lent table of 16-bit numbers; and the move by the longest proper border, which has no table.
 // It depends on `tables`, and on `matching` for what an occurrence and a move are. Engines know the table by its rule alone (specs/), and prove their skips from
 // the laws that stand beside it (proofs/Moves.antt). A table too short, or a pattern so long that an entry could pass 16 bits, leaves everything as before.
 ghost use mathlib.Core.Path.{_≡_};

@@ -1,4 +1,5 @@
 -- What engines cite of the tables of letters: a move by a table's rule goes on, passes over no occurrence, and carries nothing (`Moves`, of the window machine).
+-- DELTA1 alone may point back, so of it they cite no more than that it passes over no occurrence.
 -- All of it is shown from the rules alone, never from how a table is filled. Assumes nothing.
 use mathlib.Core.Path.{_≡_, sym, subst}
 use Prim.Native.Nat.{ℕ, _+_, _-_, _≤_, _<_}
@@ -10,10 +11,11 @@ use borrow.Author.Tests.{lt-ltb, le-ltb, ltb-true, ltb-false}
 use Rattle.matching.specs.Machine.{stop, at}
 use Rattle.matching.specs.Find.{Engine}
 use Rattle.matching.proofs.CaseAnalysis.{by-test}
+use Rattle.matching.proofs.Occurrences.{Stands}
 use Rattle.matching.proofs.Machine.{carries-none, Moves}
 use Rattle.matching.proofs.Progress.{Progress, Over, stopped}
 use Rattle.tables.proofs.Tables.{Reads}
-use Rattle.letter_tables.specs.BadCharacter.{sundayEntry, horspoolEntry}
+use Rattle.letter_tables.specs.BadCharacter.{sundayEntry, horspoolEntry, delta1Entry}
 use Rattle.letter_tables.specs.Moves.{horspoolMove, sundayMove}
 use Rattle.letter_tables.proofs.BadCharacter.{lastIn-le, bad-character, sundayEntry-pos, horspoolEntry-pos}
 
@@ -69,3 +71,10 @@ sunday-moves P T s h =
       hands = carries-none P T (s + sundayEntry P c) h;
     }))
     (λ e. rw (sunday-stop P T s (ltb-false p (length T) e)) (record { ahead = tt; skips = λ k l b st. omega (arith, ltb-false p (length T) e, st .inside); hands = tt }))
+
+-- ---- DELTA1
+
+-- whatever was compared: with the text pointer at place p, under one of the window's letters, no occurrence past s ends before the place to which DELTA1 moves it
+pub delta1-safe : (P T : List ℕ) (s p : ℕ) → s ≤ p → p < s + length P → (k : ℕ) → s < k → k + length P ≤ p + delta1Entry P (getD T p 0) → Stands P T k → ⊥
+delta1-safe P T s p low high k h l st =
+    bad-character P T (length P) p k (omega arith) (omega (arith, lastIn-le P (length P) (getD T p 0))) (omega arith) (omega (arith, lastIn-le P (length P) (getD T p 0))) st

@@ -1,4 +1,4 @@
--- The Sunday and Horspool entries of a letter (document 01, "Definitions and steps"; Sunday: source document 001, section 2.3).
+-- The Sunday and Horspool entries of a letter (document 01, "Definitions and steps"; Sunday: source document 001, section 2.3), and Boyer-Moore's DELTA1 (source document 002).
 use Prim.Native.Nat.{ℕ, _+_, _-_}
 use mathlib.Core.List.{List}
 use lib.ListN.{length, getD}
@@ -22,6 +22,10 @@ sundayEntry P c = length P + 1 - lastIn P (length P) c
 abbrev pub horspoolEntry : List ℕ → ℕ → ℕ
 horspoolEntry P c = length P - lastIn P (length P - 1) c
 
+-- DELTA1: m less the last position of c in the whole of P, so 0 for its last letter; m if absent
+abbrev pub delta1Entry : List ℕ → ℕ → ℕ
+delta1Entry P c = length P - lastIn P (length P) c
+
 -- the Sunday entries of all letters
 abbrev pub sundayTable : List ℕ → List ℕ
 sundayTable P = tabulate 256 (sundayEntry P)
@@ -30,6 +34,10 @@ sundayTable P = tabulate 256 (sundayEntry P)
 abbrev pub horspoolTable : List ℕ → List ℕ
 horspoolTable P = tabulate 256 (horspoolEntry P)
 
+-- the DELTA1 entries of all letters
+abbrev pub delta1Table : List ℕ → List ℕ
+delta1Table P = tabulate 256 (delta1Entry P)
+
 -- what the Sunday maker leaves of a lent table
 abbrev pub sundayMade : List ℕ → List ℕ → List ℕ
 sundayMade P table = made (length P + 1) (sundayTable P) table
@@ -37,3 +45,7 @@ sundayMade P table = made (length P + 1) (sundayTable P) table
 -- what the Horspool maker leaves of a lent table
 abbrev pub horspoolMade : List ℕ → List ℕ → List ℕ
 horspoolMade P table = made (length P) (horspoolTable P) table
+
+-- what the DELTA1 maker leaves of a lent table
+abbrev pub delta1Made : List ℕ → List ℕ → List ℕ
+delta1Made P table = made (length P) (delta1Table P) table

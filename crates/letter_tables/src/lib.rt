@@ -1,11 +1,11 @@
-// The tables by the last positions of letters, Sunday's and Horspool's: two makers, each writing only its own entries into a lent table of 16-bit numbers.
+// The tables by the last positions of letters, Sunday's, Horspool's and DELTA1: three makers, each writing only its own entries into a lent table of 16-bit numbers.
 // It depends on `tables`, and on `matching` for what an occurrence and a move are. Engines know a table by its rule alone (specs/), and prove their skips from
 // the laws that stand beside it (proofs/Moves.antt). A table too short, or a pattern so long that an entry could pass 16 bits, leaves everything as before.
 ghost use mathlib.Core.Path.{_≡_};
 ghost use mathlib.Core.List.{_++_};
 ghost use Prim.Native.Nat.{_≤_};
 ghost use lib.ListN.{length, drop};
-ghost use Rattle.letter_tables.specs.BadCharacter.{lastTable, sundayMade, horspoolMade};
+ghost use Rattle.letter_tables.specs.BadCharacter.{lastTable, sundayMade, horspoolMade, delta1Made};
 
 // Sets 256 entries: `base` less the last position of each letter among the pattern's first `count`.
 fn fill(pattern: &[u8], base: usize, count: usize, table: &mut [u16])
@@ -51,4 +51,18 @@ pub fn horspool_table(pattern: &[u8], table: &mut [u16])
         count = m - 1;
     }
     fill(pattern, m, count, table)
+}
+
+// Boyer-Moore's DELTA1 entries, one a letter, at the table's front.
+pub fn delta1_table(pattern: &[u8], table: &mut [u16])
+    ensures { λ _. ⌜ now (table .exit) ≡ delta1Made (now (pattern .entry)) (now (table .entry)) ⌝ }
+{
+    let m = pattern.len();
+    if table.len() < 256 {
+        return;
+    }
+    if 65535 < m {
+        return;
+    }
+    fill(pattern, m, m, table)
 }

@@ -1,4 +1,4 @@
--- Laws of tables of any rule: the largest that passes a test, entries by a rule, a table while it is filled, and what a maker leaves. Assumes nothing.
+-- Laws of tables of any rule: the largest and the least that pass a test, entries by a rule, a table while it is filled, and what a maker leaves. Assumes nothing.
 use mathlib.Core.Path.{_≡_, refl, sym, ap, _∙_}
 use Prim.Native.Nat.{ℕ, zero, suc, _+_, _-_, _≤_, _<_}
 use native.Mathlib.Omega.{arith}
@@ -10,9 +10,9 @@ use borrow.Rule.Slice.PartMut.{putMid, midOf}
 use lib.Dec.{eqb, ltb}
 use borrow.Author.Tests.{eqb-true, eqb-false, ltb-true, ltb-false, le-ltb, lt-ltb}
 use Rattle.matching.specs.Received.{received}
-use Rattle.matching.proofs.CaseAnalysis.{by-test, at-same}
+use Rattle.matching.proofs.CaseAnalysis.{by-test, both, at-same}
 use Rattle.matching.proofs.Received.{received-front}
-use Rattle.tables.specs.Tables.{largest, tabulate, made, Entries}
+use Rattle.tables.specs.Tables.{largest, least, every, tabulate, made, Entries}
 
 -- ---- the largest that passes a test
 
@@ -50,6 +50,61 @@ largest-is n test b h fit none =
     by-test (λ _. a ≡ b) (ltb b a)
     (λ s. let g : b < a = ltb-true b a s in absurd (none (a - 1) (omega arith) (omega (arith, largest-le n test)) (largest-holds n test (omega arith))))
     (λ s. omega (arith, ltb-false b a s)))
+
+-- ---- the least number from k on that passes a test, and every number after j
+
+pub least-low : (n k : ℕ) (test : ℕ → Bool) → k ≤ least n k test
+unfolding least
+least-low zero k test = omega arith
+least-low (suc n) k test = by-test (λ t. k ≤ cond t k (least n (suc k) test)) (test k) (λ _. omega arith) (λ _. omega (arith, least-low n (suc k) test))
+
+pub least-most : (n k : ℕ) (test : ℕ → Bool) → least n k test ≤ k + n
+unfolding least
+least-most zero k test = omega arith
+least-most (suc n) k test = by-test (λ t. cond t k (least n (suc k) test) ≤ k + suc n) (test k) (λ _. omega arith) (λ _. omega (arith, least-most n (suc k) test))
+
+-- none before it passes
+pub least-none : (n k : ℕ) (test : ℕ → Bool) (c : ℕ) → k ≤ c → c < least n k test → test c ≡ true → ⊥
+unfolding least
+least-none zero k test c h l e = omega arith
+least-none (suc n) k test c h l e =
+    by-test (λ t. test k ≡ t → c < cond t k (least n (suc k) test) → ⊥) (test k)
+    (λ _ _ l. omega arith)
+    (λ _ f l. by-test (λ _. ⊥) (eqb c k) (λ d. true≢false (sym e ∙ rw (eqb-true c k d) f)) (λ d. least-none n (suc k) test c (omega (arith, eqb-false c k d)) l e))
+    refl l
+
+-- it passes itself, where it is one of those tried
+pub least-holds : (n k : ℕ) (test : ℕ → Bool) → least n k test < k + n → test (least n k test) ≡ true
+unfolding least
+least-holds zero k test l = absurd (omega arith)
+least-holds (suc n) k test l =
+    by-test (λ t. test k ≡ t → cond t k (least n (suc k) test) < k + suc n → test (cond t k (least n (suc k) test)) ≡ true) (test k)
+    (λ _ f _. f) (λ _ f l. least-holds n (suc k) test (omega arith)) refl l
+
+-- there is one least: what passes, or is past those tried, with none before it that does
+pub least-is : (n k : ℕ) (test : ℕ → Bool) (b : ℕ) → k ≤ b → b ≤ k + n → (b < k + n → test b ≡ true) → ((c : ℕ) → k ≤ c → c < b → test c ≡ true → ⊥) → least n k test ≡ b
+least-is n k test b low high fit none =
+    let a : ℕ = least n k test in
+    by-test (λ _. a ≡ b) (ltb a b)
+    (λ t. let l : a < b = ltb-true a b t in absurd (none a (least-low n k test) l (least-holds n k test (omega arith))))
+    (λ t.
+    let l : b ≤ a = ltb-false a b t in
+    by-test (λ _. a ≡ b) (ltb b a)
+    (λ s. let g : b < a = ltb-true b a s in absurd (least-none n k test b low g (fit (omega (arith, least-most n k test)))))
+    (λ s. omega (arith, ltb-false b a s)))
+
+pub every-all : (n j : ℕ) (test : ℕ → Bool) → every n j test ≡ true → (i : ℕ) → j < i → i ≤ j + n → test i ≡ true
+unfolding every
+every-all zero j test e i h l = absurd (omega arith)
+every-all (suc n) j test e i h l =
+    by-test (λ _. test i ≡ true) (eqb i (suc j))
+    (λ d. rw (eqb-true i (suc j) d) (both (test (suc j)) (every n (suc j) test) e .0))
+    (λ d. every-all n (suc j) test (both (test (suc j)) (every n (suc j) test) e .1) i (omega (arith, eqb-false i (suc j) d)) (omega arith))
+
+pub all-every : (n j : ℕ) (test : ℕ → Bool) → ((i : ℕ) → j < i → i ≤ j + n → test i ≡ true) → every n j test ≡ true
+unfolding every
+all-every zero j test f = refl
+all-every (suc n) j test f = rw (f (suc j) (omega arith) (omega arith)) (all-every n (suc j) test (λ i h l. f i (omega arith) (omega arith)))
 
 -- ---- entries by a rule
 

@@ -1,7 +1,7 @@
 -- What tables of any rule have in common: entries by a rule, and what a maker leaves of a lent table.
 use mathlib.Core.Path.{_≡_}
 use Prim.Native.Nat.{ℕ, zero, suc, _+_, _≤_, _<_}
-use mathlib.Core.Bool.{Bool, cond, _||_}
+use mathlib.Core.Bool.{Bool, true, cond, _&&_, _||_}
 use mathlib.Core.List.{List, [], _∷_}
 use lib.ListN.{length, getD}
 use lib.Dec.{ltb}
@@ -11,6 +11,16 @@ use Rattle.matching.specs.Received.{received}
 unfoldable pub largest : ℕ → (ℕ → Bool) → ℕ
 largest zero test = 0
 largest (suc k) test = let lower = largest k test in cond (test k) (suc k) lower
+
+-- the least number from k on that passes a test, if one of the n numbers from k on does; k + n if none does
+unfoldable pub least : ℕ → ℕ → (ℕ → Bool) → ℕ
+least zero k test = k
+least (suc n) k test = let later = least n (suc k) test in cond (test k) k later
+
+-- whether each of the n numbers after j passes a test
+unfoldable pub every : ℕ → ℕ → (ℕ → Bool) → Bool
+every zero j test = true
+every (suc n) j test = test (suc j) && every n (suc j) test
 
 -- the entries 0 to n - 1 by a rule
 unfoldable pub tabulate : ℕ → (ℕ → ℕ) → List ℕ
