@@ -238,6 +238,14 @@ pub record Downward (P T : List ℕ) (s count k : ℕ) : Type 0 where
 pub down-compared : {P T : List ℕ} {s count k : ℕ} → k ≡ comparedDown P T s count → count ≤ length P → s + count ≤ length T → Downward P T s count k
 down-compared {P} {T} {s} {count} e h l = let is = e ∙ comparedDown-is P T s count h l in record { is = is; upto = omega (arith, is, down-le P T s count) }
 
+-- where the last letter was compared first: it is equal, and k of those before it are; or it is not
+module _ {P T : List ℕ} {s count : ℕ} (some : 1 ≤ count) where
+  pub down-last : {k : ℕ} → getD P (count - 1) 0 ≡ getD T (s + (count - 1)) 0 → Downward P T s (count - 1) k → Downward P T s count (1 + k)
+  down-last e d = let is = down-equal P T s count some e in record { is = omega (arith, d .is); upto = omega (arith, d .upto) }
+
+  pub down-no-last : (getD P (count - 1) 0 ≡ getD T (s + (count - 1)) 0 → ⊥) → Downward P T s count 0
+  down-no-last differs = record { is = sym (down-unequal P T s count some differs); upto = omega arith }
+
 -- ---- the looks
 
 pub looks-part : (count equal : ℕ) → equal < count → looks count equal ≡ equal + 1

@@ -1,0 +1,3 @@
+-- The engine's published steps, the value that `Found` is told, and what its private functions ask of the scratch.
+pub mod BoyerMoore
+pub mod Made
