@@ -14,13 +14,14 @@ const BUILDS: [(&str, &[&str]); 3] = [
 ];
 
 /// The files of `c/` and the function that each defines.
-const TWINS: [(&str, &str); 8] = [
+const TWINS: [(&str, &str); 9] = [
     ("naive", "twin_naive"),
     ("kmp", "twin_kmp"),
     ("horspool", "twin_horspool"),
     ("sunday", "twin_sunday"),
     ("fjs", "twin_fjs"),
     ("double_window", "twin_double_window"),
+    ("boyer_moore", "twin_boyer_moore"),
     ("memmem", "twin_memmem"),
     ("cue_book", "twin_read_book"),
 ];

@@ -72,8 +72,8 @@ fn panel(svg: &mut Svg, (left, top): (f64, f64), axes: &Axes<'_>, family: &Grown
 }
 
 /// The engines whose growth is promised come last, so that their lines lie above the others.
-fn order() -> [Method; 6] {
-    [Method::Naive, Method::Horspool, Method::Sunday, Method::DoubleWindow, Method::Kmp, Method::Fjs]
+fn order() -> [Method; 7] {
+    [Method::Naive, Method::Horspool, Method::Sunday, Method::DoubleWindow, Method::BoyerMoore, Method::Kmp, Method::Fjs]
 }
 
 fn legend(svg: &mut Svg, (left, top): (f64, f64)) {

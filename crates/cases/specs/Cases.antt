@@ -1,4 +1,4 @@
--- The starred cases of document 01, "Refrains to try": one table, and what it means for a row to hold.
+-- The starred cases of document 01, "Refrains to try", and the cases that document 02, (ii), names: one table, and what it means for a row to hold.
 use Prim.Native.Nat.{ℕ, suc, _-_}
 use mathlib.Core.Bool.{Bool, true, false, cond, _&&_}
 use mathlib.Core.List.{List, [], _∷_, _++_}
@@ -10,25 +10,30 @@ use Rattle.matching.specs.Find.{Engine, compared}
 use Rattle.tables.specs.Tables.{tabulate}
 use Rattle.letter_tables.specs.BadCharacter.{lastIn, sundayTable, horspoolTable}
 use Rattle.border_tables.specs.Kmp.{kmpEntry, kmpTable}
+use Rattle.suffix_tables.specs.Delta2.{shift, delta2Table}
 use Rattle.naive.specs.Naive.{naive}
 use Rattle.kmp.specs.Kmp.{kmp}
 use Rattle.horspool.specs.Horspool.{horspool}
 use Rattle.sunday.specs.Sunday.{sunday}
 use Rattle.fjs.specs.Fjs.{window, fjs}
 use Rattle.double_window.specs.DoubleWindow.{doubleWindow}
+use Rattle.boyer_moore.specs.BoyerMoore as bm
+use Rattle.boyer_moore.specs.BoyerMoore.{boyerMoore}
 use Rattle.fold.specs.Fold.{folded}
 use Rattle.cues.specs.Cue.{Cue, cueWith}
 use Rattle.cue_book.specs.Book.{bookBytes}
 use Rattle.cue_book.specs.Reading.{Reading, refused, cues, readBook}
 use Rattle.outcome.specs.Outcome.{Outcome, outcome}
 
--- a row: what is asked, and the answer that document 01 gives
+-- a row: what is asked, and the answer that the document gives
 pub data Case : Type 0 where
   -- the KMP entries b[1] to b[m + 1] of a pattern, and the moves j - b[j] of source document 001, example 1
   kmpEntries : List ℕ → List ℕ → List ℕ → Case
   -- all 256 Sunday or Horspool entries of a pattern: those of some letters, one after another, and that of every other letter
   sundayEntries : List ℕ → List ℕ → List ℕ → ℕ → Case
   horspoolEntries : List ℕ → List ℕ → List ℕ → ℕ → Case
+  -- DELTA2 of 1 to m of a pattern
+  delta2Entries : List ℕ → List ℕ → Case
   -- a find by an engine's steps: the pattern, the text, the positions and the comparisons
   find : Engine → List ℕ → List ℕ → List ℕ → ℕ → Case
   -- a letter, and what it folds to
@@ -70,10 +75,11 @@ comesTo o refusal number entries = eqb (o .resolution .refusal) refusal && eqb (
 
 -- a row holds: the definitions give its answer
 unfoldable pub holds : Case → Bool
-unfolding same tabulate lastIn kmpEntry given movesFrom occurrences runFrom positionsIn compared window folded readsAs readBook bookBytes comesTo outcome
+unfolding same tabulate lastIn kmpEntry shift given movesFrom occurrences runFrom positionsIn compared window bm.window folded readsAs readBook bookBytes comesTo outcome
 holds (kmpEntries P entries moves) = same (kmpTable P) entries && same (movesFrom 0 (kmpTable P)) moves
 holds (sundayEntries P letters entries others) = same (sundayTable P) (tabulate 256 (given letters entries others))
 holds (horspoolEntries P letters entries others) = same (horspoolTable P) (tabulate 256 (given letters entries others))
+holds (delta2Entries P entries) = same (delta2Table P) entries
 holds (find e P T positions comparisons) = same (occurrences P T) positions && same (positionsIn (run (e .steps) P T)) positions && eqb (compared e P T) comparisons
 holds (fold letter small) = eqb (folded letter) small
 holds (book bytes cs) = readsAs (readBook bytes) cs && same (bookBytes cs) bytes
@@ -85,7 +91,7 @@ unfolding holds
 allHold [] = true
 allHold (c ∷ cs) = holds c && allHold cs
 
--- the words of the cases, in ASCII: a is 97, b 98, c 99, l 108, N 78, o 111
+-- the words of the cases, in ASCII: a is 97, b 98, c 99, l 108, N 78, o 111; A is 65, B 66, and so on
 abbrev wordA : List ℕ
 wordA = 97 ∷ []
 
@@ -117,6 +123,13 @@ abc = ab ++ wordC
 abbrev la : List ℕ
 la = 108 ∷ wordA
 
+-- the patterns of source document 003
+abbrev ABCXXXABC : List ℕ
+ABCXXXABC = 65 ∷ 66 ∷ 67 ∷ 88 ∷ 88 ∷ 88 ∷ 65 ∷ 66 ∷ 67 ∷ []
+
+abbrev ABYXCDEYX : List ℕ
+ABYXCDEYX = 65 ∷ 66 ∷ 89 ∷ 88 ∷ 67 ∷ 68 ∷ 69 ∷ 89 ∷ 88 ∷ []
+
 -- the book la, 2, No
 abbrev laNo : List ℕ
 laNo = 0x01 ∷ 0x00 ∷ 0x02 ∷ 0x6C ∷ 0x61 ∷ 0x02 ∷ 0x00 ∷ 0x02 ∷ 0x00 ∷ 0x02 ∷ 0x03 ∷ 0x00 ∷ 0x02 ∷ 0x4E ∷ 0x6F ∷ []
@@ -139,6 +152,10 @@ cases =
     ∷ find sunday ab wordA [] 0
     ∷ find fjs ab wordA [] 0
     ∷ find doubleWindow ab wordA [] 0
+    ∷ delta2Entries ABCXXXABC (14 ∷ 13 ∷ 12 ∷ 11 ∷ 10 ∷ 9 ∷ 11 ∷ 10 ∷ 1 ∷ [])
+    ∷ delta2Entries ABYXCDEYX (17 ∷ 16 ∷ 15 ∷ 14 ∷ 13 ∷ 12 ∷ 7 ∷ 10 ∷ 1 ∷ [])
+    ∷ find boyerMoore aba (ab ++ aba) (0 ∷ 2 ∷ []) 6
+    ∷ find boyerMoore ab wordA [] 0
     ∷ fold 0xC9 0xE9
     ∷ fold 0xD7 0xD7
     ∷ fold 0xDF 0xDF

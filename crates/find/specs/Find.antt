@@ -12,8 +12,9 @@ use Rattle.horspool.specs.Horspool.{horspool}
 use Rattle.sunday.specs.Sunday.{sunday}
 use Rattle.fjs.specs.Fjs.{fjs}
 use Rattle.double_window.specs.DoubleWindow.{doubleWindow}
+use Rattle.boyer_moore.specs.BoyerMoore.{boyerMoore}
 
--- the engine of a method number: 0 naive, 1 KMP, 2 Horspool, 3 Sunday, 4 FJS, 5 double window
+-- the engine of a method number: 0 naive, 1 KMP, 2 Horspool, 3 Sunday, 4 FJS, 5 double window, 6 Boyer-Moore (document 02, (ii))
 unfoldable pub engineOf : ℕ → Engine
 engineOf method =
     cond (eqb method 0) naive
@@ -21,9 +22,10 @@ engineOf method =
     (cond (eqb method 2) horspool
     (cond (eqb method 3) sunday
     (cond (eqb method 4) fjs
-    doubleWindow))))
+    (cond (eqb method 5) doubleWindow
+    boyerMoore)))))
 
--- a method above 5 is refused with 1, all as before; any other is a find by its engine
+-- a method above 6 is refused with 1, all as before; any other is a find by its engine
 pub record Answered (method : ℕ) (P T scratch list : List ℕ) (r : Finding) (scratch′ list′ : List ℕ) : Type 0 where
-  pub refused : 5 < method → (r ≡ record { refusal = 1; total = 0; comparisons = 0 }) × ((scratch′ ≡ scratch) × (list′ ≡ list))
-  pub found : method ≤ 5 → Found (engineOf method) P T scratch list r scratch′ list′
+  pub refused : 6 < method → (r ≡ record { refusal = 1; total = 0; comparisons = 0 }) × ((scratch′ ≡ scratch) × (list′ ≡ list))
+  pub found : method ≤ 6 → Found (engineOf method) P T scratch list r scratch′ list′

@@ -1,4 +1,4 @@
--- All that is printed for an input fits the output of `outputSize` bytes: six lines of at most 24,600 bytes each, or one refusal. Assumes nothing.
+-- All that is printed for an input fits the output of `outputSize` bytes: seven lines of at most 24,600 bytes each, or one refusal. Assumes nothing.
 use mathlib.Core.Path.{_≡_, ap}
 use Prim.Native.Nat.{ℕ, _*_, _≤_, _<_}
 use native.Mathlib.Omega.{arith}
@@ -22,6 +22,7 @@ use Rattle.horspool.proofs.Sound as horspool
 use Rattle.sunday.proofs.Sound as sunday
 use Rattle.fjs.proofs.Sound as fjs
 use Rattle.double_window.proofs.Sound as double
+use Rattle.boyer_moore.proofs.Sound as bm
 use Rattle.pieces.specs.Pieces.{joined}
 use Rattle.pieces.proofs.Laid.{joined-append}
 use Rattle.finder_lines.specs.Lines.{fields, refusedLine}
@@ -73,10 +74,11 @@ module _ (P T : List ℕ) (short : length P ≤ 1024) (small : length T ≤ 3276
 all-fit : (P T : List ℕ) → Within (length P) (length T) 0 0 → length (joined (engineLines rows P T)) ≤ outputSize
 unfolding rows
 all-fit P T w =
+    let some = w .some in
     omega (
       arith,
       lines-fit P T (w .short) (w .small) rows
-          ((omega arith, naive.sound P T (w .some)), ((omega arith, kmp.sound P T (w .some)), ((omega arith, horspool.sound P T (w .some)), ((omega arith, sunday.sound P T (w .some)), ((omega arith, fjs.sound P T (w .some)), ((omega arith, double.sound P T (w .some)), tt)))))),
+          ((omega arith, naive.sound P T some), ((omega arith, kmp.sound P T some), ((omega arith, horspool.sound P T some), ((omega arith, sunday.sound P T some), ((omega arith, fjs.sound P T some), ((omega arith, bm.sound P T some), ((omega arith, double.sound P T some), tt))))))),
     )
 
 answered-fits : (P T : List ℕ) → length (joined (answered P T)) ≤ outputSize

@@ -13,6 +13,7 @@ use Rattle.horspool.specs.Horspool.{horspool}
 use Rattle.sunday.specs.Sunday.{sunday}
 use Rattle.fjs.specs.Fjs.{fjs}
 use Rattle.double_window.specs.DoubleWindow.{doubleWindow}
+use Rattle.boyer_moore.specs.BoyerMoore.{boyerMoore}
 use Rattle.pieces.specs.Pieces.{joined}
 use Rattle.finder_lines.specs.Lines.{lineOf, refusedLine}
 
@@ -31,7 +32,8 @@ pub record Row : Type 0 where
   pub name : List ℕ
   pub engine : Engine
 
--- the engines in the order of their lines, `double` last (document 02 (v)); the names are `naive`, `kmp`, `horspool`, `sunday`, `fjs` and `double` in ASCII
+-- the engines in the order of their lines, `bm` after `fjs` (document 02, (ii)) and `double` last (document 02, (v)); the names are `naive`, `kmp`, `horspool`, `sunday`, `fjs`, `bm`
+-- and `double` in ASCII
 unfoldable pub rows : List Row
 rows =
     record { name = 110 ∷ 97 ∷ 105 ∷ 118 ∷ 101 ∷ []; engine = naive }
@@ -39,6 +41,7 @@ rows =
     ∷ record { name = 104 ∷ 111 ∷ 114 ∷ 115 ∷ 112 ∷ 111 ∷ 111 ∷ 108 ∷ []; engine = horspool }
     ∷ record { name = 115 ∷ 117 ∷ 110 ∷ 100 ∷ 97 ∷ 121 ∷ []; engine = sunday }
     ∷ record { name = 102 ∷ 106 ∷ 115 ∷ []; engine = fjs }
+    ∷ record { name = 98 ∷ 109 ∷ []; engine = boyerMoore }
     ∷ record { name = 100 ∷ 111 ∷ 117 ∷ 98 ∷ 108 ∷ 101 ∷ []; engine = doubleWindow }
     ∷ []
 

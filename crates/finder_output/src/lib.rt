@@ -24,7 +24,7 @@ fn phrase_end(input: &[u8]) -> usize
     i
 }
 
-// Puts the line of one engine from `at` on: where the next line goes. The caller has met no refusal, and 1,281 scratch entries are enough for methods 0 to 5.
+// Puts the line of one engine from `at` on: where the next line goes. The caller has met no refusal, and 1,281 scratch entries are enough for methods 0 to 6.
 fn put_engine(
     method: u32,
     name: &[u8],
@@ -33,7 +33,7 @@ fn put_engine(
     output: &mut [u8],
     at: usize,
 ) -> usize
-    requires { ⌜ method ≤ 5 ⌝ }
+    requires { ⌜ method ≤ 6 ⌝ }
     requires { ⌜ refusal (length (now phrase)) (length (now text)) 0 0 ≡ 0 ⌝ }
     ensures { λ r. ⌜ Laid (now (output .exit)) r (putAll (now (output .entry)) at (engineLine (record { name = now (name .entry); engine = engineOf method }) (now (phrase .entry)) (now (text .entry)))) ⌝ }
 {
@@ -55,6 +55,7 @@ fn put_row(row: u32, phrase: &[u8], text: &[u8], output: &mut [u8], at: usize) -
         2 => put_engine(2, b"horspool", phrase, text, output, at),
         3 => put_engine(3, b"sunday", phrase, text, output, at),
         4 => put_engine(4, b"fjs", phrase, text, output, at),
+        5 => put_engine(6, b"bm", phrase, text, output, at),
         _ => put_engine(5, b"double", phrase, text, output, at),
     }
 }
@@ -66,7 +67,7 @@ fn put_rows(phrase: &[u8], text: &[u8], output: &mut [u8]) -> usize
 {
     let mut at = 0;
     let mut row = 0;
-    while row < 6 {
+    while row < 7 {
         at = put_row(row, phrase, text, output, at);
         row += 1;
     }

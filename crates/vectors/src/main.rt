@@ -46,7 +46,7 @@ fn kmp_table_in_five(pattern: &[u8]) {
     entries(&table, 0, 5);
 }
 
-// Sunday and Horspool tables: the entries of some letters. A letter table has 256 entries, and one more here.
+// Sunday, Horspool and DELTA1 tables: the entries of some letters. A letter table has 256 entries, and one more here.
 fn sunday_table(pattern: &[u8], from: usize, to: usize) {
     let mut table = [9; 257];
     letter_tables::sunday_table(pattern, &mut table);
@@ -63,14 +63,45 @@ fn horspool_table(pattern: &[u8], from: usize, to: usize) {
     entries(&table, from, to);
 }
 
-// Both in a table one entry short.
+fn delta1_table(pattern: &[u8], from: usize, to: usize) {
+    let mut table = [9; 257];
+    letter_tables::delta1_table(pattern, &mut table);
+    io::write_all(1, b"delta1 table ");
+    io::write_all(1, pattern);
+    entries(&table, from, to);
+}
+
+// All three in a table one entry short.
 fn letter_tables_in_255(pattern: &[u8]) {
     let mut table = [9; 255];
     letter_tables::sunday_table(pattern, &mut table);
     letter_tables::horspool_table(pattern, &mut table);
+    letter_tables::delta1_table(pattern, &mut table);
     io::write_all(1, b"letter tables in 255 ");
     io::write_all(1, pattern);
     entries(&table, 96, 110);
+}
+
+// The DELTA2 table of a pattern, and the borders of its suffixes: all entries of either.
+fn delta2_in(pattern: &[u8], borders: &mut [u16], table: &mut [u16]) {
+    suffix_tables::delta2_table(pattern, borders, table);
+    io::write_all(1, b"delta2 table ");
+    io::write_all(1, pattern);
+    entries(table, 0, table.len());
+    io::write_all(1, b"borders ");
+    io::write_all(1, pattern);
+    entries(borders, 0, borders.len());
+}
+
+// The same in so many entries, with so many lent for the borders.
+fn delta2_table(pattern: &[u8], room: usize, lent: usize) {
+    let mut borders = [9; 16];
+    let mut table = [9; 16];
+    if room <= 16 {
+        if lent <= 16 {
+            delta2_in(pattern, &mut borders[..lent], &mut table[..room]);
+        }
+    }
 }
 
 fn tables() {
@@ -97,6 +128,36 @@ fn letter_tables() {
     letter_tables_in_255(b"la");
 }
 
+fn delta1_tables() {
+    delta1_table(b"la", 96, 110);
+    delta1_table(b"la", 255, 257);
+    delta1_table(b"ABCXXXABC", 64, 90);
+    delta1_table(b"~", 125, 128);
+}
+
+// The two tables of source document 003 first; then patterns of one letter and of two, and one of eleven.
+fn delta2_tables() {
+    delta2_table(b"ABCXXXABC", 10, 11);
+    delta2_table(b"ABYXCDEYX", 10, 11);
+    delta2_table(b"a", 2, 3);
+    delta2_table(b"aaaa", 5, 6);
+    delta2_table(b"baaa", 5, 6);
+    delta2_table(b"aaab", 5, 6);
+    delta2_table(b"abab", 5, 6);
+    delta2_table(b"badbacbacba", 12, 13);
+    delta2_table(b"", 1, 2);
+}
+
+// Just enough of both, one entry too few of either, and of both.
+fn delta2_in_little() {
+    delta2_table(b"abca", 4, 5);
+    delta2_table(b"abca", 3, 5);
+    delta2_table(b"abca", 4, 4);
+    delta2_table(b"abca", 3, 4);
+    delta2_table(b"", 0, 1);
+    delta2_table(b"", 0, 0);
+}
+
 // The engine of a method number by its name.
 fn name(method: u32) {
     match method {
@@ -106,6 +167,7 @@ fn name(method: u32) {
         3 => io::write_all(1, b"sunday"),
         4 => io::write_all(1, b"fjs"),
         5 => io::write_all(1, b"double"),
+        6 => io::write_all(1, b"bm"),
         _ => io::write_all(1, b"unknown"),
     }
     ;
@@ -182,6 +244,17 @@ fn kmp_bound() {
     case(1, b"b", b"aaaaaaaa", 1281);
 }
 
+// Request (ii) of document 02: the move of the text letter decides, that of the equal letters does, the letter's alone would go back; and after occurrences borders of 0, 1 and more letters.
+fn boyer_moore() {
+    case(6, b"aba", b"abcaba", 1281);
+    case(6, b"cabdab", b"yyyydbcabdab", 1281);
+    case(6, b"bba", b"ababba", 1281);
+    case(6, b"ab", b"ababab", 1281);
+    case(6, b"aabaa", b"aabaabaa", 1281);
+    case(6, b"aaaa", b"aaaaaa", 1281);
+    case(6, b"AT-THAT", b"WHICH-FINALLY-HALTS.--AT-THAT-POINT", 1281);
+}
+
 // Request (i) of document 02: the line and the column of each place of a text, that of its end included.
 fn lines(name: &[u8], text: &[u8]) {
     io::write_all(1, b"lines");
@@ -241,14 +314,19 @@ fn places_told() {
 fn main() {
     tables();
     letter_tables();
+    delta1_tables();
+    delta2_tables();
+    delta2_in_little();
     engine(0, 0);
     engine(1, 4);
     engine(2, 256);
     engine(3, 256);
     engine(4, 260);
     engine(5, 256);
-    case(6, b"aba", b"ababa", 1281);
+    engine(6, 259);
+    case(7, b"aba", b"ababa", 1281);
     kmp_bound();
+    boyer_moore();
     endings();
     places_told();
 }

@@ -1,11 +1,12 @@
-//! Document 01, "What a find call takes and leaves" and "What a refused call hands back", rows 1 to 5; the scratch of method 5 by document 02, (v).
+//! Document 01, "What a find call takes and leaves" and "What a refused call hands back", rows 1 to 5; method 6 by document 02, (ii), and the
+//! scratch of method 5 by (v).
 
-use crate::{double_window, fjs, horspool, kmp, naive, sunday};
+use crate::{boyer_moore, double_window, fjs, horspool, kmp, naive, sunday};
 
 /// Refusal number, total, comparisons; and what scratch and list hold afterwards.
 pub fn find(method: u32, phrase: &[u8], text: &[u8], scratch: &mut [u16], list: &mut [u32]) -> (u32, u32, u32) {
     // The refusals, in rising number; nothing is written.
-    if method > 5 {
+    if method > 6 {
         return (1, 0, 0);
     }
     if phrase.is_empty() {
@@ -22,7 +23,8 @@ pub fn find(method: u32, phrase: &[u8], text: &[u8], scratch: &mut [u16], list: 
         1 => phrase.len() + 1,
         2 | 3 => 256,
         4 => 256 + phrase.len() + 1,
-        _ => 256,
+        5 => 256,
+        _ => 256 + phrase.len(),
     };
     if scratch.len() < needed {
         return (5, 0, 0);
@@ -35,7 +37,8 @@ pub fn find(method: u32, phrase: &[u8], text: &[u8], scratch: &mut [u16], list: 
         2 => horspool::table(phrase),
         3 => sunday::table(phrase),
         4 => [sunday::table(phrase), kmp::table(phrase)].concat(),
-        _ => horspool::table(phrase),
+        5 => horspool::table(phrase),
+        _ => [boyer_moore::delta1(phrase), boyer_moore::delta2(phrase)].concat(),
     };
     assert_eq!(tables.len(), needed);
     scratch[..needed].copy_from_slice(&tables);
@@ -51,7 +54,8 @@ pub fn find(method: u32, phrase: &[u8], text: &[u8], scratch: &mut [u16], list: 
         2 => horspool::run(phrase, text, &tables),
         3 => sunday::run(phrase, text, &tables),
         4 => fjs::run(phrase, text, &tables[..256], &tables[256..]),
-        _ => double_window::run(phrase, text, &tables),
+        5 => double_window::run(phrase, text, &tables),
+        _ => boyer_moore::run(phrase, text, &tables[..256], &tables[256..]),
     };
 
     // The list receives the first places up to its length; entries past those written keep their values; the total is full.

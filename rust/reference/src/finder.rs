@@ -1,4 +1,4 @@
-//! Document 01, "The finder program"; its last line by document 02, (v).
+//! Document 01, "The finder program"; its `bm` line by document 02, (ii), and its last line by (v).
 
 use crate::find;
 
@@ -15,10 +15,11 @@ pub fn finder_output(input: &[u8]) -> Vec<u8> {
     };
     // Lines: engine, total, comparisons, and the places in the list.
     let mut output = String::new();
-    for (method, engine) in ["naive", "kmp", "horspool", "sunday", "fjs", "double"].iter().enumerate() {
+    for (method, engine) in [(0, "naive"), (1, "kmp"), (2, "horspool"), (3, "sunday"), (4, "fjs"), (6, "bm"), (5, "double")] {
+        // Enough for the longest tables, which are those of FJS.
         let mut scratch = vec![0; 256 + 1024 + 1];
         let mut list = vec![0; 4096];
-        let (refusal, total, comparisons) = find(method as u32, phrase, text, &mut scratch, &mut list);
+        let (refusal, total, comparisons) = find(method, phrase, text, &mut scratch, &mut list);
         // A refusal prints `refused` and its number, as one line only.
         if refusal != 0 {
             return format!("refused {refusal}\n").into_bytes();

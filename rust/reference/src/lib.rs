@@ -8,6 +8,7 @@
 
 #![forbid(unsafe_code)]
 
+mod boyer_moore;
 mod cue_book;
 mod double_window;
 mod find;
@@ -29,7 +30,7 @@ pub use find::find;
 pub use finder::finder_output;
 pub use fold::{fold, fold_text};
 pub use resolver::{endings, line_and_column, resolve};
-pub use tables::{horspool_table, kmp_table, sunday_table};
+pub use tables::{delta1_table, delta2_table, horspool_table, kmp_table, sunday_table};
 
 /// What an engine gives: the places, rising, counted from 0, and the number of looks at a pair P[j], T[i].
 #[derive(Default)]

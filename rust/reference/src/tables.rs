@@ -1,7 +1,7 @@
-//! Document 01, "Definitions and steps": the tables by themselves, each made in a lent table. Its entries go to the front; a table that is too short
-//! for them stays as it was.
+//! Document 01, "Definitions and steps", and document 02, (ii): the tables by themselves, each made in a lent table. Its entries go to the front; a
+//! table that is too short for them stays as it was.
 
-use crate::{horspool, kmp, sunday};
+use crate::{boyer_moore, horspool, kmp, sunday};
 
 pub fn kmp_table(phrase: &[u8], table: &mut [u16]) {
     put(&kmp::table(phrase), table);
@@ -13,6 +13,21 @@ pub fn sunday_table(phrase: &[u8], table: &mut [u16]) {
 
 pub fn horspool_table(phrase: &[u8], table: &mut [u16]) {
     put(&horspool::table(phrase), table);
+}
+
+pub fn delta1_table(phrase: &[u8], table: &mut [u16]) {
+    put(&boyer_moore::delta1(phrase), table);
+}
+
+/// DELTA2, and in memory of its own f(0) to f(m) of source document 002, Algorithm 4: the next place after p, from 0, from which the letters up to the
+/// phrase's end stand again at p; m + 1 after m. Where that memory is too short, the table too stays as it was.
+pub fn delta2_table(phrase: &[u8], borders: &mut [u16], table: &mut [u16]) {
+    let m = phrase.len();
+    let next = |p: usize| (p + 1..=m).find(|&t| phrase[p..].starts_with(&phrase[t..])).unwrap_or(m + 1);
+    put(&(0..=m).map(|p| next(p) as u16).collect::<Vec<u16>>(), borders);
+    if borders.len() > m {
+        put(&boyer_moore::delta2(phrase), table);
+    }
 }
 
 fn put(entries: &[u16], table: &mut [u16]) {

@@ -1,8 +1,8 @@
-//! The worked examples of document 01, "The finder program" and "Refrains to try", and of document 02, (v), and the tests that books, cues and lent
-//! memory meet.
+//! The worked examples of document 01, "The finder program" and "Refrains to try", and of document 02, (ii) and (v), and the tests that books, cues
+//! and lent memory meet.
 
+use crate::{boyer_moore, double_window, endings, find, finder_output, fjs, fold, fold_text, horspool, kmp, line_and_column, resolve, sunday};
 use crate::{cues, read_book, read_cue, read_due, read_field, title, write_cue, Cue, Field};
-use crate::{double_window, endings, find, finder_output, fjs, fold, fold_text, horspool, kmp, line_and_column, resolve, sunday};
 
 /// Total, comparisons and places by a method, with memory enough.
 fn found(method: u32, phrase: &[u8], text: &[u8]) -> (u32, u32, Vec<u32>) {
@@ -16,11 +16,11 @@ fn found(method: u32, phrase: &[u8], text: &[u8]) -> (u32, u32, Vec<u32>) {
 
 #[test]
 fn finder_lines() {
-    let lines = "naive 2 7 0 2\nkmp 2 5 0 2\nhorspool 2 6 0 2\nsunday 2 6 0 2\nfjs 2 5 0 2\ndouble 2 4 0 2\n";
+    let lines = "naive 2 7 0 2\nkmp 2 5 0 2\nhorspool 2 6 0 2\nsunday 2 6 0 2\nfjs 2 5 0 2\nbm 2 6 0 2\ndouble 2 4 0 2\n";
     assert_eq!(finder_output(b"aba\nababa"), lines.as_bytes());
     assert_eq!(finder_output(b""), b"refused 2\n");
     assert_eq!(finder_output(b"\n"), b"refused 2\n");
-    assert_eq!(finder_output(b"ab"), b"naive 0 0\nkmp 0 0\nhorspool 0 0\nsunday 0 0\nfjs 0 0\ndouble 0 0\n");
+    assert_eq!(finder_output(b"ab"), b"naive 0 0\nkmp 0 0\nhorspool 0 0\nsunday 0 0\nfjs 0 0\nbm 0 0\ndouble 0 0\n");
     assert_eq!(finder_output(&[b'a'; 1025]), b"refused 3\n");
     assert_eq!(finder_output(&[b'a'; 33_793]), b"refused 3\n");
     assert_eq!(finder_output(&[b'a'; 33_794]), b"refused 4\n");
@@ -90,6 +90,120 @@ fn double_window_scratch() {
     }
 }
 
+/// As source document 003 prints them.
+#[test]
+fn delta2_of_document_003() {
+    assert_eq!(boyer_moore::delta2(b"ABCXXXABC"), [14, 13, 12, 11, 10, 9, 11, 10, 1]);
+    assert_eq!(boyer_moore::delta2(b"ABYXCDEYX"), [17, 16, 15, 14, 13, 12, 7, 10, 1]);
+}
+
+#[test]
+fn delta1_of_abcxxxabc() {
+    let entries = boyer_moore::delta1(b"ABCXXXABC");
+    assert_eq!(entries.len(), 256);
+    for c in 0..=255u8 {
+        let entry = match c {
+            b'A' => 2,
+            b'B' => 1,
+            b'C' => 0,
+            b'X' => 3,
+            _ => 9,
+        };
+        assert_eq!(entries[c as usize], entry, "letter {c}");
+    }
+}
+
+#[test]
+fn delta2_of_long_phrases() {
+    // With 1,024 letters a, letter j − k is never different, so k is j.
+    assert_eq!(boyer_moore::delta2(&[b'a'; 1024]), [1024; 1024]);
+    // With a b in front, letter j − k is different where it is the b, so k is j − 1. For j = 1, letter i = k + 1 lies after j and fails at the b, up
+    // to k = m; this is the largest entry that a find meets.
+    let phrase = [vec![b'b'], vec![b'a'; 1023]].concat();
+    assert_eq!(boyer_moore::delta2(&phrase), [vec![2047], vec![1023; 1023]].concat());
+}
+
+/// The example of source document 003, which counts 14 looks up to the end of the occurrence.
+#[test]
+fn example_of_document_003() {
+    assert_eq!(found(6, b"AT-THAT", b"WHICH-FINALLY-HALTS.--AT-THAT"), (1, 14, vec![22]));
+    // AT is the longest border, so the phrase moves by 5 and its end meets N, which is absent; the next window passes the end.
+    assert_eq!(found(6, b"AT-THAT", b"WHICH-FINALLY-HALTS.--AT-THAT-POINT"), (1, 15, vec![22]));
+}
+
+/// Texts in which the move after a mismatch leads to an occurrence, which costs a look at each letter.
+#[test]
+fn boyer_moore_moves_after_a_mismatch() {
+    // 1 look: c at letter 3 is absent. DELTA1 is 3, DELTA2(3) is 1.
+    assert_eq!(found(6, b"aba", b"abcaba"), (1, 1 + 3, vec![3]));
+    // 3 looks: ab is equal, x at letter 6 is absent. DELTA1 is 8, while DELTA2(6) is 3 + 2 by the ab at letter 4, which a c precedes and not a d.
+    assert_eq!(found(6, b"abcabdab", b"yyyyyxabcabdab"), (1, 3 + 8, vec![6]));
+    // 2 looks: b is equal, d at letter 5 is not a. DELTA1 is 2, while DELTA2(5) is 6 + 1, since the other b too comes after an a.
+    assert_eq!(found(6, b"cabdab", b"yyyydbcabdab"), (1, 2 + 6, vec![6]));
+    // 2 looks: b is equal, b at letter 3 is not a. DELTA1 is 0 and alone would set the window's end back from letter 4 to 3; DELTA2(3) is 4 + 1.
+    assert_eq!(found(6, b"abab", b"yybbabab"), (1, 2 + 4, vec![4]));
+    // 3 looks: ba is equal, a at letter 1 is not b. DELTA1 is 0 and alone would set the window's end back from letter 3 to 1; DELTA2(1) is 3 + 2.
+    assert_eq!(found(6, b"bba", b"ababba"), (1, 3 + 3, vec![3]));
+}
+
+/// Each window is an occurrence and costs a look at each letter.
+#[test]
+fn boyer_moore_moves_after_an_occurrence() {
+    // Border 0: move by m.
+    assert_eq!(found(6, b"ab", b"ababab"), (3, 3 * 2, vec![0, 2, 4]));
+    // Border 1: a. In the second text the next window passes the end.
+    assert_eq!(found(6, b"aba", b"ababa"), (2, 2 * 3, vec![0, 2]));
+    assert_eq!(found(6, b"aba", b"abab"), (1, 3, vec![0]));
+    // Border 2: ab in the first phrase; aa in the second, where a is a shorter border.
+    assert_eq!(found(6, b"abab", b"ababab"), (2, 2 * 4, vec![0, 2]));
+    assert_eq!(found(6, b"aabaa", b"aabaabaa"), (2, 2 * 5, vec![0, 3]));
+    // Border m − 1: move by 1.
+    assert_eq!(found(6, b"aaaa", b"aaaaaa"), (3, 3 * 4, vec![0, 1, 2]));
+}
+
+/// Border 0, DELTA2(1) = 1, and DELTA1 at most 1: each letter of the text is looked at once.
+#[test]
+fn boyer_moore_phrase_of_one_letter() {
+    assert_eq!(found(6, b"a", b"cabcca"), (2, 6, vec![1, 5]));
+    assert_eq!(found(6, b"a", b"aaa"), (3, 3, vec![0, 1, 2]));
+    assert_eq!(found(6, b"b", b"aaa"), (0, 3, vec![]));
+    assert_eq!(found(6, b"b", b""), (0, 0, vec![]));
+}
+
+#[test]
+fn boyer_moore_scratch() {
+    let mut tables = [vec![3; 256], vec![4, 3, 1]].concat();
+    (tables[b'a' as usize], tables[b'b' as usize]) = (0, 1);
+    for length in [259, 260, 1281] {
+        let mut scratch = vec![7; length];
+        let mut list = [7; 3];
+        assert_eq!(find(6, b"aba", b"ababa", &mut scratch[..258], &mut list), (5, 0, 0));
+        assert_eq!((&scratch, list), (&vec![7; length], [7; 3]));
+        assert_eq!(find(6, b"aba", b"ababa", &mut scratch, &mut list), (0, 2, 6));
+        assert_eq!((scratch, list), ([tables.clone(), vec![7; length - 259]].concat(), [0, 2, 7]));
+        // A phrase longer than the text leaves the tables all the same.
+        let mut scratch = vec![7; length];
+        assert_eq!(find(6, b"aba", b"ab", &mut scratch, &mut list), (0, 0, 0));
+        assert_eq!((scratch, list), ([tables.clone(), vec![7; length - 259]].concat(), [0, 2, 7]));
+    }
+}
+
+/// All words over a and b of this length.
+fn words(length: usize) -> Vec<Vec<u8>> {
+    (0..1usize << length).map(|bits| (0..length).map(|k| b"ab"[bits >> k & 1]).collect()).collect()
+}
+
+#[test]
+fn boyer_moore_gives_the_naive_places() {
+    let texts: Vec<Vec<u8>> = (0..=9).flat_map(words).collect();
+    for phrase in (1..=6).flat_map(words) {
+        for text in &texts {
+            let ((total, _, places), (naive_total, _, naive_places)) = (found(6, &phrase, text), found(0, &phrase, text));
+            assert_eq!((total, places), (naive_total, naive_places), "{phrase:?} in {text:?}");
+        }
+    }
+}
+
 #[test]
 fn starred_fjs_cases() {
     assert_eq!(found(4, b"aba", b"aaaaa"), (0, 9, vec![]));
@@ -111,7 +225,11 @@ fn limits() {
     assert_eq!(find(4, b"abc", &text, &mut scratch, &mut []), (4, 0, 0));
     assert_eq!(find(4, b"abc", &text[..9], &mut scratch[..259], &mut []), (5, 0, 0));
     assert_eq!(find(4, b"abc", &text[..9], &mut scratch[..260], &mut []).0, 0);
-    assert_eq!(find(6, b"", &text, &mut [], &mut []), (1, 0, 0));
+    assert_eq!(find(6, &[b'a'; 1024], &text[..1024], &mut scratch[..1279], &mut []), (5, 0, 0));
+    assert_eq!(find(6, &[b'a'; 1024], &text[..1024], &mut scratch[..1280], &mut []).0, 0);
+    assert_eq!(find(6, b"", &text, &mut [], &mut []), (2, 0, 0));
+    assert_eq!(find(7, b"", &text, &mut [], &mut []), (1, 0, 0));
+    assert_eq!(find(u32::MAX, b"", &text, &mut [], &mut []), (1, 0, 0));
 }
 
 #[test]

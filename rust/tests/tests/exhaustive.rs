@@ -33,6 +33,35 @@ fn double_window_by_an_absent_letter() {
     report("double_window_by_an_absent_letter", 14 * 29_524);
 }
 
+/// Boyer-Moore alone: DELTA2 of every phrase up to 11 letters of two and up to 7 of three, and its steps in the phrase twice over, where part of it
+/// stands again.
+#[test]
+fn boyer_moore_tables() {
+    let mut seed = 0;
+    let of_two = (1..=11).flat_map(|length| all_words(2, length));
+    let of_three = (1..=7).flat_map(|length| all_words(3, length));
+    for phrase in of_two.chain(of_three) {
+        let text = phrase.repeat(2);
+        compare(6, &phrase, &text, needed(6, phrase.len()) + (seed % 3) as usize, text.len() + 1, seed);
+        seed += 1;
+    }
+    report("boyer_moore_tables", 4094 + 3279);
+}
+
+/// Boyer-Moore alone, with phrases long enough for each of its moves: DELTA2's entries by a part that stands again, by a border, and by neither.
+#[test]
+fn boyer_moore_moves() {
+    let texts: Vec<Vec<u8>> = (5..=11).flat_map(|length| all_words(2, length)).collect();
+    let mut seed = 0;
+    for phrase in (5..=6).flat_map(|length| all_words(2, length)) {
+        for text in &texts {
+            compare(6, &phrase, text, needed(6, phrase.len()), text.len(), seed);
+            seed += 1;
+        }
+    }
+    report("boyer_moore_moves", 96 * 4064);
+}
+
 #[test]
 fn two_letters() {
     all_pairs(2, 4, 9);

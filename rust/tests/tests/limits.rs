@@ -98,7 +98,7 @@ fn every_scratch_length() {
             let enough = needed(method, m);
             let lengths: Vec<usize> = match method {
                 0 => vec![0, 1, 2],
-                1 | 4 => (0..=enough + 1).collect(),
+                1 | 4 | 6 => (0..=enough + 1).collect(),
                 _ => vec![0, 1, 255, 256, 257, 1281],
             };
             for scratch_len in lengths {

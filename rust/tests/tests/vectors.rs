@@ -1,7 +1,7 @@
 //! The program `vectors`: the file that the gate holds its output to is built again here from the reference alone, case by case in the program's order.
 
 use libretto_tests::programs::repository;
-use reference::{endings, find, horspool_table, kmp_table, line_and_column, sunday_table};
+use reference::{delta1_table, delta2_table, endings, find, horspool_table, kmp_table, line_and_column, sunday_table};
 use std::fmt::Display;
 use std::fs;
 use std::ops::Range;
@@ -28,14 +28,32 @@ fn tables() -> String {
     let in_five = |pattern| table("kmp table in five", &[kmp_table], 5, pattern, 0..5);
     let sunday = |pattern, shown| table("sunday table", &[sunday_table], 257, pattern, shown);
     let horspool = |pattern, shown| table("horspool table", &[horspool_table], 257, pattern, shown);
+    let delta1 = |pattern, shown| table("delta1 table", &[delta1_table], 257, pattern, shown);
     let lines = [
         vec![kmp("a", 3), kmp("aaaa", 6), kmp("aaab", 6), kmp("abab", 6), kmp("abaababaab", 12), kmp("abcabcacab", 12), kmp("", 2)],
         vec![in_five("abcab"), in_five("abca")],
         vec![sunday("la", 96..110), sunday("la", 255..257), sunday("abcabcacab", 96..110), sunday("~", 125..128)],
         vec![horspool("la", 96..110), horspool("la", 255..257), horspool("abcabcacab", 96..110), horspool("~", 125..128)],
-        vec![table("letter tables in 255", &[sunday_table, horspool_table], 255, "la", 96..110)],
+        vec![table("letter tables in 255", &[sunday_table, horspool_table, delta1_table], 255, "la", 96..110)],
+        vec![delta1("la", 96..110), delta1("la", 255..257), delta1("ABCXXXABC", 64..90), delta1("~", 125..128)],
     ];
     lines.concat().concat()
+}
+
+/// Two lines: DELTA2 in a table of so many entries, and the borders of the suffixes in as many as were lent for them.
+fn delta2(pattern: &str, room: usize, lent: usize) -> String {
+    let (mut borders, mut table) = (vec![9; lent], vec![9; room]);
+    delta2_table(pattern.as_bytes(), &mut borders, &mut table);
+    line(&format!("delta2 table {pattern}"), table) + &line(&format!("borders {pattern}"), borders)
+}
+
+/// The tables of source document 003 first, which `reference` holds to the document's own words.
+fn delta2_tables() -> String {
+    let one_more = ["ABCXXXABC", "ABYXCDEYX", "a", "aaaa", "baaa", "aaab", "abab", "badbacbacba", ""]
+        .map(|pattern| delta2(pattern, pattern.len() + 1, pattern.len() + 2));
+    let little = [("abca", 4, 5), ("abca", 3, 5), ("abca", 4, 4), ("abca", 3, 4), ("", 0, 1), ("", 0, 0)]
+        .map(|(pattern, room, lent)| delta2(pattern, room, lent));
+    one_more.concat() + &little.concat()
 }
 
 /// A find with a scratch of so many entries, and a list of four: all that it gives.
@@ -45,7 +63,7 @@ fn found(asked: &str, method: u32, pattern: &[u8], text: &[u8], room: usize) -> 
     line(asked, [refusal, total, comparisons].into_iter().chain(list))
 }
 
-const NAMES: [&str; 7] = ["naive", "kmp", "horspool", "sunday", "fjs", "double", "unknown"];
+const NAMES: [&str; 8] = ["naive", "kmp", "horspool", "sunday", "fjs", "double", "bm", "unknown"];
 /// Enough for every method.
 const ROOM: usize = 1281;
 
@@ -73,6 +91,13 @@ fn engine(method: u32, enough: usize) -> String {
 /// Request (xii) of document 02.
 fn kmp_bound() -> String {
     [("aaab", "aaaaaaaa"), ("aaab", "aaaa"), ("ab", "aaaaaaaa"), ("b", "aaaaaaaa")].map(|(pattern, text)| case(1, pattern, text, ROOM)).concat()
+}
+
+/// Request (ii) of document 02.
+fn boyer_moore() -> String {
+    let moves = [("aba", "abcaba"), ("cabdab", "yyyydbcabdab"), ("bba", "ababba"), ("ab", "ababab"), ("aabaa", "aabaabaa"), ("aaaa", "aaaaaa")];
+    let document_003 = ("AT-THAT", "WHICH-FINALLY-HALTS.--AT-THAT-POINT");
+    moves.into_iter().chain([document_003]).map(|(pattern, text)| case(6, pattern, text, ROOM)).collect()
 }
 
 /// A text by its bytes: letters, and the numbers of those that end lines.
@@ -115,8 +140,8 @@ fn line_rule() -> String {
 fn the_expected_output() {
     let path = repository().join("crates/vectors/stdout");
     let held = fs::read_to_string(&path).unwrap_or_else(|error| panic!("{}: {error}", path.display()));
-    let engines = [0, 4, 256, 256, 260, 256].into_iter().zip(0..).map(|(enough, method)| engine(method, enough));
-    let due = [tables(), engines.collect(), case(6, "aba", "ababa", ROOM), kmp_bound(), line_rule()].concat();
+    let engines = [0, 4, 256, 256, 260, 256, 259].into_iter().zip(0..).map(|(enough, method)| engine(method, enough));
+    let due = [tables(), delta2_tables(), engines.collect(), case(7, "aba", "ababa", ROOM), kmp_bound(), boyer_moore(), line_rule()].concat();
 
     let (mut held_lines, mut due_lines) = (held.lines(), due.lines());
     for number in 1.. {

@@ -1,7 +1,7 @@
 -- `find::find` meets its contract: each arm is the find of its number's engine. Assumes nothing.
 use borrow.Author.Needs.{needs}
 use mathlib.Core.Path.{_≡_, refl}
-use Prim.Native.Nat.{ℕ, _≤_}
+use Prim.Native.Nat.{ℕ, suc, _≤_}
 use native.Mathlib.Omega.{arith}
 use mathlib.Core.List.{List}
 use Rattle.matching.specs.declared.Finding.{Finding}
@@ -16,9 +16,19 @@ use Rattle.naive.proofs.find.Reads as find-reads′′′′
 use Rattle.sunday.proofs.find.Reads as find-reads′′′′′
 
 -- the method is k, and k's engine found
-by-engine : (k : ℕ) {method : ℕ} {P T scratch list : List ℕ} {r : Finding} {scratch′ list′ : List ℕ} → method ≡ k → k ≤ 5 → Found (engineOf k) P T scratch list r scratch′ list′
+by-engine : (k : ℕ) {method : ℕ} {P T scratch list : List ℕ} {r : Finding} {scratch′ list′ : List ℕ} → method ≡ k → k ≤ 6 → Found (engineOf k) P T scratch list r scratch′ list′
     → Answered method P T scratch list r scratch′ list′
 by-engine k e h f = record { refused = λ m. absurd (omega arith); found = λ _. rw e f }
+
+-- from number to number: every number is from 0 on, one from k on that is not k is from k + 1 on, and none of the seven is above 6
+any : {method : ℕ} → 0 ≤ method
+any = omega arith
+
+past : (k : ℕ) {method : ℕ} → k ≤ method → (method ≡ k → ⊥) → suc k ≤ method
+past k h other = omega (arith, other)
+
+above : {method : ℕ} → method ≤ 6 → 7 ≤ method → ⊥
+above h l = omega arith
 
 find-requires : tie.Need-find-requires
 find-requires c κs = search needs
@@ -37,6 +47,9 @@ find-requires-5 c κs = search needs
 
 find-requires-6 : tie.Need-find-requires-6
 find-requires-6 c κs = search needs
+
+find-requires-7 : tie.Need-find-requires-7
+find-requires-7 c κs = search needs
 
 same-length : tie.Need-same-length
 same-length c = search needs
@@ -98,12 +111,22 @@ returns-6 : tie.Need-returns-6
 unfolding engineOf
 returns-6 c = by-engine 5 (c .before .before .before .before .before .before .before .match .keys6) (omega arith) (c .before .before .before .before .find6 .ensures)
 
+same-length-13 : tie.Need-same-length-13
+same-length-13 c = search needs
+
+same-length-14 : tie.Need-same-length-14
+same-length-14 c = search needs
+
 returns-7 : tie.Need-returns-7
-returns-7 c =
+unfolding engineOf
+returns-7 c = by-engine 6 (c .before .before .before .before .before .before .before .match .keys7) (omega arith) (c .before .before .before .before .find7 .ensures)
+
+returns-8 : tie.Need-returns-8
+returns-8 c =
     let r = c .match .rest in
     record {
       refused = λ h. (refl, (refl, refl));
-      found = λ h. absurd (omega (arith, r .0 .0 .0 .0 .0 .1, r .0 .0 .0 .0 .1, r .0 .0 .0 .1, r .0 .0 .1, r .0 .1, r .1));
+      found = λ h. absurd (above h (past 6 (past 5 (past 4 (past 3 (past 2 (past 1 (past 0 any (r .0 .0 .0 .0 .0 .0 .1)) (r .0 .0 .0 .0 .0 .1)) (r .0 .0 .0 .0 .1)) (r .0 .0 .0 .1)) (r .0 .0 .1)) (r .0 .1)) (r .1)));
     }
 
 pub find-spec : {M : Type 1} → statement M
@@ -116,6 +139,7 @@ find-spec =
     find-requires-4
     find-requires-5
     find-requires-6
+    find-requires-7
     same-length
     same-length-2
     returns
@@ -134,4 +158,7 @@ find-spec =
     same-length-11
     same-length-12
     returns-6
-    returns-7)
+    same-length-13
+    same-length-14
+    returns-7
+    returns-8)

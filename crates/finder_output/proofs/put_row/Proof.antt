@@ -47,6 +47,12 @@ slice-aggregate-put-engine-6 c = search needs
 put-engine-requires-6 : tie.Need-put-engine-requires-6
 put-engine-requires-6 c κs = search needs
 
+slice-aggregate-put-engine-7 : tie.Need-slice-aggregate-put-engine-7
+slice-aggregate-put-engine-7 c = search needs
+
+put-engine-requires-7 : tie.Need-put-engine-requires-7
+put-engine-requires-7 c κs = search needs
+
 same-length : tie.Need-same-length
 same-length c = search needs
 
@@ -87,11 +93,18 @@ same-length-6 c = search needs
 
 returns-6 : tie.Need-returns-6
 unfolding rows engineOf
-returns-6 c =
+returns-6 c = let e = c .before .before in rw (e .before .before .before .match .keys6) (e .put-engine6 .ensures)
+
+same-length-7 : tie.Need-same-length-7
+same-length-7 c = search needs
+
+returns-7 : tie.Need-returns-7
+unfolding rows engineOf
+returns-7 c =
     let e = c .before .before in
     let m = e .before .before .before in
-    let is : start m .args .row ≡ 5 = omega (arith, start m .pre .0, m .match .rest) in
-    rw is (e .put-engine6 .ensures)
+    let is : start m .args .row ≡ 6 = omega (arith, start m .pre .0, m .match .rest) in
+    rw is (e .put-engine7 .ensures)
 
 pub put-row-spec : {M : Type 1} → statement M
 put-row-spec =
@@ -109,6 +122,8 @@ put-row-spec =
     put-engine-requires-5
     slice-aggregate-put-engine-6
     put-engine-requires-6
+    slice-aggregate-put-engine-7
+    put-engine-requires-7
     same-length
     returns
     same-length-2
@@ -120,4 +135,6 @@ put-row-spec =
     same-length-5
     returns-5
     same-length-6
-    returns-6)
+    returns-6
+    same-length-7
+    returns-7)
