@@ -6,6 +6,7 @@ use Rattle.tables.specs.Tables.{Entries}
 use Rattle.letter_tables.specs.BadCharacter.{delta1Entry}
 use Rattle.suffix_tables.specs.Delta2.{delta2Entry}
 
+-- 256 DELTA1 entries and then DELTA2 of 1 to m, of a pattern that a find takes
 pub record Made (P scratch : List ℕ) : Type 0 where
   pub short : length P ≤ 1024
   pub delta1 : Entries 0 256 (delta1Entry P) scratch

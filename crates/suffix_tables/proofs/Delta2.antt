@@ -1,6 +1,6 @@
 -- DELTA2's rule letter by letter (`Fits`), and that it fixes the shift (`Shift`): the least of all k ≥ 1 that fit, with no bound on k. Then the entries as engines read them, and what
 -- the maker leaves. Assumes nothing.
-use mathlib.Core.Path.{_≡_, refl}
+use mathlib.Core.Path.{_≡_, refl, sym, _∙_}
 use Prim.Native.Nat.{ℕ, suc, _+_, _-_, _*_, _≤_, _<_}
 use native.Mathlib.Omega.{arith}
 use mathlib.Core.Bool.{Bool, true, not, _||_}
@@ -10,8 +10,9 @@ use lib.Dec.{eqb, ltb, leb}
 use borrow.Author.Tests.{not-true, eqb-true, eqb-false, eq-eqb, ne-eqb, ltb-true, ltb-false, lt-ltb, le-ltb, leb-false, lt-leb}
 use Rattle.matching.proofs.CaseAnalysis.{by-test, both, either}
 use Rattle.tables.specs.Tables.{least, every, made, Entries}
-use Rattle.tables.proofs.Tables.{least-low, least-none, least-holds, least-is, every-all, all-every, Reads}
-use Rattle.suffix_tables.specs.Delta2.{letter, fits, shift, delta2Entry, delta2Table, delta2Made}
+use Rattle.tables.proofs.Tables.{least-low, least-none, least-holds, least-is, every-all, all-every, made-short-by, made-long-by, Reads}
+use Rattle.suffix_tables.specs.Suffixes.{suffixMade}
+use Rattle.suffix_tables.specs.Delta2.{letter, fits, shift, delta2Entry, delta2Table, delta2Made, bordersMade}
 
 -- ---- the rule letter by letter
 
@@ -85,7 +86,7 @@ delta2-reads P q t h is =
     let most = shift-le P (suc q) (omega arith) (omega arith) in
     record { is = e; least = omega arith; most = omega arith }
 
--- what the maker leaves, where the borders have no room, and where they have
+-- what the maker leaves of the table: the borders have no room, the table is too short, the pattern too long, or none of it
 module _ (P : List ℕ) (room : ℕ) (table : List ℕ) where
   pub delta2-none : room ≤ length P → table ≡ delta2Made P room table
   unfolding delta2Made
@@ -94,3 +95,28 @@ module _ (P : List ℕ) (room : ℕ) (table : List ℕ) where
   pub delta2-made : length P < room → delta2Made P room table ≡ made (2 * length P - 1) (delta2Table P) table
   unfolding delta2Made
   delta2-made h = rw (lt-ltb (length P) room h)
+
+  kept-as : table ≡ made (2 * length P - 1) (delta2Table P) table → table ≡ delta2Made P room table
+  kept-as e =
+      by-test (λ _. table ≡ delta2Made P room table) (ltb (length P) room)
+      (λ t. e ∙ sym (delta2-made (ltb-true (length P) room t))) (λ t. delta2-none (ltb-false (length P) room t))
+
+  pub delta2-short : length table < length P → table ≡ delta2Made P room table
+  delta2-short h = kept-as (made-short-by (2 * length P - 1) (length P) (λ q. delta2Entry P (suc q)) table h)
+
+  pub delta2-long : length P ≤ length table → 32768 < length P → table ≡ delta2Made P room table
+  delta2-long h l = kept-as (made-long-by (2 * length P - 1) (length P) (λ q. delta2Entry P (suc q)) table h (omega arith))
+
+-- and of the borders
+module _ (P : List ℕ) (size : ℕ) (borders : List ℕ) where
+  pub borders-short : size < length P → borders ≡ bordersMade P size borders
+  unfolding bordersMade
+  borders-short h = rw (lt-ltb size (length P) h)
+
+  pub borders-long : length P ≤ size → 32768 < length P → borders ≡ bordersMade P size borders
+  unfolding bordersMade
+  borders-long h l = rw (le-ltb size (length P) h, lt-ltb 65535 (2 * length P - 1) (omega arith))
+
+  pub borders-made : length P ≤ size → length P ≤ 32768 → bordersMade P size borders ≡ suffixMade P borders
+  unfolding bordersMade
+  borders-made h l = rw (le-ltb size (length P) h, le-ltb 65535 (2 * length P - 1) (omega arith))

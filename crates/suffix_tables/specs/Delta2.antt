@@ -6,6 +6,7 @@ use mathlib.Core.List.{List}
 use lib.ListN.{length, getD}
 use lib.Dec.{eqb, ltb, leb}
 use Rattle.tables.specs.Tables.{least, every, tabulate, made}
+use Rattle.suffix_tables.specs.Suffixes.{suffixMade}
 
 -- letter i
 abbrev pub letter : List ℕ → ℕ → ℕ
@@ -36,3 +37,8 @@ delta2Table P = tabulate (length P) (λ q. delta2Entry P (suc q))
 unfoldable pub delta2Made : List ℕ → ℕ → List ℕ → List ℕ
 unfolding made
 delta2Made P room table = cond (ltb (length P) room) (made (2 * length P - 1) (delta2Table P) table) table
+
+-- what it leaves of the memory lent for these borders, beside a table of so many entries: as before where the table is too short, or an entry could be above 16 bits
+unfoldable pub bordersMade : List ℕ → ℕ → List ℕ → List ℕ
+unfolding made
+bordersMade P size borders = cond (ltb size (length P) || ltb 65535 (2 * length P - 1)) borders (suffixMade P borders)

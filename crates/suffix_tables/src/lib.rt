@@ -6,7 +6,7 @@ ghost use Prim.Native.Nat.{_+_, _≤_};
 ghost use lib.ListN.{length};
 ghost use Rattle.tables.specs.Tables.{Entries};
 ghost use Rattle.suffix_tables.specs.Suffixes.{suffixEntry, suffixMade};
-ghost use Rattle.suffix_tables.specs.Delta2.{delta2Made};
+ghost use Rattle.suffix_tables.specs.Delta2.{delta2Made, bordersMade};
 ghost use Rattle.suffix_tables.specs.Passes.{Settled};
 
 // The borders of the suffixes, f(0) to f(m), at the table's front, as source document 002, Algorithm 4, finds them: KMP's table maker from the other end.
@@ -78,19 +78,19 @@ fn suffix_entries(pattern: &[u8], borders: &[u16], table: &mut [u16])
 }
 
 // The DELTA2 entries of 1 to m at the table's front. The borders of the suffixes stand at the front of `borders` afterwards; the maker is lent that memory, so that it has a limit of no
-// other kind than the other makers. Linear in m: three passes, each of which is.
+// other kind than the other makers; too little of either leaves both as before. Linear in m: three passes, each of which is.
 pub fn delta2_table(pattern: &[u8], borders: &mut [u16], table: &mut [u16])
-    ensures { λ _. ⌜ (now (borders .exit) ≡ suffixMade (now (pattern .entry)) (now (borders .entry))) × (now (table .exit) ≡ delta2Made (now (pattern .entry)) (length (now (borders .entry))) (now (table .entry))) ⌝ }
+    ensures { λ _. ⌜ (now (borders .exit) ≡ bordersMade (now (pattern .entry)) (length (now (table .entry))) (now (borders .entry))) × (now (table .exit) ≡ delta2Made (now (pattern .entry)) (length (now (borders .entry))) (now (table .entry))) ⌝ }
 {
     let m = pattern.len();
-    suffix_table(pattern, borders);
-    if borders.len() <= m {
-        return;
-    }
     if table.len() < m {
         return;
     }
     if 32768 < m {
+        return;
+    }
+    suffix_table(pattern, borders);
+    if borders.len() <= m {
         return;
     }
     prefix_entries(pattern, borders, table);

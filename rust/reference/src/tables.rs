@@ -20,12 +20,12 @@ pub fn delta1_table(phrase: &[u8], table: &mut [u16]) {
 }
 
 /// DELTA2, and in memory of its own f(0) to f(m) of source document 002, Algorithm 4: the next place after p, from 0, from which the letters up to the
-/// phrase's end stand again at p; m + 1 after m. Where that memory is too short, the table too stays as it was.
+/// phrase's end stand again at p; m + 1 after m. Where either is too short, both stay as they were.
 pub fn delta2_table(phrase: &[u8], borders: &mut [u16], table: &mut [u16]) {
     let m = phrase.len();
     let next = |p: usize| (p + 1..=m).find(|&t| phrase[p..].starts_with(&phrase[t..])).unwrap_or(m + 1);
-    put(&(0..=m).map(|p| next(p) as u16).collect::<Vec<u16>>(), borders);
-    if borders.len() > m {
+    if borders.len() > m && table.len() >= m {
+        put(&(0..=m).map(|p| next(p) as u16).collect::<Vec<u16>>(), borders);
         put(&boyer_moore::delta2(phrase), table);
     }
 }
