@@ -85,7 +85,7 @@ right-none P T s inside c =
     }))
     (λ e.
     rw (window-end P T s (eqb-false p t e))
-    (record { reports = sym (no-occurrence P T s some (λ st. eqb-false p t e (st .letters (length P - 1) (omega arith)))); few = some; moves = sunday-moves P T s some }))
+    (record { reports = sym (no-occurrence P T s some (λ st. eqb-false p t e (st .letters (length P - 1) (omega arith)))); few = omega arith; moves = sunday-moves P T s some }))
 
 pub sound : (P T : List ℕ) → 1 ≤ length P → Sound window P T
 sound P T h = record { some = h; right = right }

@@ -1,6 +1,6 @@
 -- The laws of the window machine, for any engine. An engine shows facts of one window (`Right`); from these follow, once for all engines:
 -- the bound on the number of windows is never met (`run-on`, `run-off`, `run-stop` name none); the reported positions are the occurrences (`positions-are`);
--- the comparisons are at most m a window (`run-few`). Assumes nothing.
+-- the comparisons are at most m + 1 a window (`run-few`). Assumes nothing.
 use mathlib.Core.Path.{_≡_, refl, sym, ap, _∙_}
 use Prim.Native.Nat.{ℕ, zero, suc, _+_, _-_, _*_, _≤_, _<_}
 use native.Mathlib.Omega.{arith}
@@ -46,10 +46,11 @@ pub record Moves (P T : List ℕ) (s : ℕ) (x : State) : Type 0 where
   pub skips : (k : ℕ) → s < k → Before k x → Stands P T k → ⊥
   pub hands : Carried P T x
 
--- one window is right: it reports an occurrence exactly where the pattern stands, looks at each letter at most once, and moves on rightly
+-- one window is right: it reports an occurrence exactly where the pattern stands, makes at most m + 1 looks, and moves on rightly. Most engines look at each letter at most once;
+-- one that looks at a letter first and then at all in their order looks at that one twice
 pub record Right (P T : List ℕ) (s : ℕ) (v : Window) : Type 0 where
   pub reports : v .stands ≡ occursAt P T s
-  pub few : v .compared ≤ length P
+  pub few : v .compared ≤ length P + 1
   pub moves : Moves P T s (v .next)
 
 -- an engine's steps are right at every window inside the text whose carried letters are equal
@@ -181,21 +182,21 @@ module _ {w : Steps} {P T : List ℕ} (sound : Sound w P T) where
   unfolding runFrom occurrences
   positions-are = positions-ahead (suc (length T)) (at 0 0) (omega arith) (carries-none P T 0 (sound .some)) ∙ ap (λ n. occursFrom n P T 0) (sub-zero (suc (length T)))
 
-  -- ---- the run's comparisons: at most m a window
+  -- ---- the run's comparisons: at most m + 1 a window
 
-  compared-few : (f : ℕ) (x : State) → Carried P T x → comparedIn (windows f w P T x) ≤ f * length P
+  compared-few : (f : ℕ) (x : State) → Carried P T x → comparedIn (windows f w P T x) ≤ f * (length P + 1)
   unfolding comparedIn
   compared-few zero stop n = rw (windows-stop zero w P T) (omega arith)
   compared-few (suc f) stop n = rw (windows-stop (suc f) w P T) (omega arith)
   compared-few zero (at s q) n = rw (windows-none w P T (at s q)) (omega arith)
   compared-few (suc f) (at s q) n =
-      by-test (λ _. comparedIn (windows (suc f) w P T (at s q)) ≤ suc f * length P) (leb (s + length P) (length T))
+      by-test (λ _. comparedIn (windows (suc f) w P T (at s q)) ≤ suc f * (length P + 1)) (leb (s + length P) (length T))
       (λ e.
       let inside : s + length P ≤ length T = leb-true (s + length P) (length T) e in
       let r = sound .right s q inside n in
       rw (windows-on f w P T s q inside, suc-mul) (omega (arith, r .few, compared-few f (w P T s q .next) (r .moves .hands))))
       (λ e. rw (windows-off (suc f) w P T s q (leb-false (s + length P) (length T) e)) (omega arith))
 
-  pub run-few : comparedIn (run w P T) ≤ suc (length T) * length P
+  pub run-few : comparedIn (run w P T) ≤ suc (length T) * (length P + 1)
   unfolding runFrom
   run-few = compared-few (suc (length T)) (at 0 0) (carries-none P T 0 (sound .some))

@@ -177,11 +177,11 @@ pub record Stepped (e : Engine) (P T list₀ : List ℕ) (s d total compared : �
   pub ahead : 1 ≤ d
   pub fits : s + d ≤ length T
 
--- ---- the counters stay small: a total of at most n + 1, and at most m comparisons for each of n + 1 windows
+-- ---- the counters stay small: a total of at most n + 1, and at most m + 1 comparisons for each of n + 1 windows
 
-pub run-small : {w : Steps} {P T : List ℕ} → Sound w P T → length P ≤ 1024 → length T ≤ 32768 → comparedIn (run w P T) ≤ 33555456
+pub run-small : {w : Steps} {P T : List ℕ} → Sound w P T → length P ≤ 1024 → length T ≤ 32768 → comparedIn (run w P T) ≤ 33588225
 run-small {w} {P} {T} sound short small =
-    omega (arith, run-few sound, mul-le-mul {n₁ = suc (length T)} {m₁ = length P} {n₂ = 32769} {m₂ = 1024} (omega arith) short)
+    omega (arith, run-few sound, mul-le-mul {n₁ = suc (length T)} {m₁ = length P + 1} {n₂ = 32769} {m₂ = 1025} (omega arith) (omega arith))
 
 module _ {e : Engine} {P T list₀ : List ℕ} {x : State} {total compared : ℕ} {list : List ℕ} (p : Progress e P T list₀ x total compared list) where
   pub total-small : total ≤ 32769
@@ -190,7 +190,7 @@ module _ {e : Engine} {P T list₀ : List ℕ} {x : State} {total compared : ℕ
       let all : positionsIn (p .done) ++ positionsIn rest ≡ occurrences P T = sym (positions-append (p .done) rest) ∙ ap positionsIn (p .whole) ∙ positions-are (p .sound) in
       omega (arith, p .counted, p .small, occurrences-few P T, ap length all, length-append (positionsIn (p .done)) (positionsIn rest))
 
-  pub compared-small : compared ≤ 33555456
+  pub compared-small : compared ≤ 33588225
   compared-small = omega (arith, p .looked, run-small (p .sound) (p .short) (p .small), ap comparedIn (p .whole), compared-append (p .done) (runFrom (e .steps) P T x))
 
   -- the list keeps its length
@@ -236,6 +236,6 @@ module _ {e : Engine} {P T list₀ list : List ℕ} {total looked : ℕ} (o : Ov
   keeps none tables = found-accepted none over-total over-compared tables over-listed
 
 -- the comparisons of a find that is not refused fit 32 bits
-pub compared-fits : (e : Engine) {P T : List ℕ} → Sound (e .steps) P T → length P ≤ 1024 → length T ≤ 32768 → compared e P T ≤ 33555456
+pub compared-fits : (e : Engine) {P T : List ℕ} → Sound (e .steps) P T → length P ≤ 1024 → length T ≤ 32768 → compared e P T ≤ 33588225
 unfolding compared
 compared-fits e sound short small = run-small sound short small
