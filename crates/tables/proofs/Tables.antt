@@ -234,6 +234,16 @@ front-entries n rule rest e =
       entry = λ i h {p} is. ap (λ (t : List ℕ). getD t p 0) e ∙ at-same (tabulate n rule ++ rest) (omega arith) ∙ tabulate-at n rule rest i h;
     }
 
+-- a table after a entries of any kind
+pub later-entries : (front : List ℕ) (a n : ℕ) (rule : ℕ → ℕ) (rest : List ℕ) {table : List ℕ} → length front ≡ a → table ≡ front ++ (tabulate n rule ++ rest) → Entries a n rule table
+later-entries front a n rule rest size e =
+    record {
+      room = omega (arith, ap length e, length-append front (tabulate n rule ++ rest), length-append (tabulate n rule) rest, length-tabulate n rule);
+      entry = λ i h {p} is.
+          ap (λ (t : List ℕ). getD t p 0) e ∙ at-same (front ++ (tabulate n rule ++ rest)) {j = length front + i} (omega arith)
+          ∙ getD-append-add front (tabulate n rule ++ rest) i 0 ∙ tabulate-at n rule rest i h;
+    }
+
 -- a maker that had room, with no entry above 16 bits, filled the front: what it left, and each entry by its rule
 pub record Filled (n : ℕ) (rule : ℕ → ℕ) (table table′ : List ℕ) : Type 0 where
   pub left : table′ ≡ received table (tabulate n rule)
@@ -261,37 +271,42 @@ module _ (a b : ℕ) (f g : ℕ → ℕ) (rest : List ℕ) where
   first-entries e = front-entries a f (tabulate b g ++ rest) (e ∙ both-grouped)
 
   pub second-entries : {table : List ℕ} → table ≡ (tabulate a f ++ tabulate b g) ++ rest → Entries a b g table
-  second-entries {table} e =
-      let e′ = e ∙ both-grouped in
-      let n : length (tabulate a f) ≡ a = length-tabulate a f in
-      record {
-        room = omega (arith, ap length e′, length-append (tabulate a f) (tabulate b g ++ rest), length-append (tabulate b g) rest, length-tabulate b g);
-        entry = λ i h {p} is.
-            ap (λ (t : List ℕ). getD t p 0) e′ ∙ at-same (tabulate a f ++ (tabulate b g ++ rest)) {j = length (tabulate a f) + i} (omega arith)
-            ∙ getD-append-add (tabulate a f) (tabulate b g ++ rest) i 0 ∙ tabulate-at b g rest i h;
-      }
+  second-entries e = later-entries (tabulate a f) a b g rest (length-tabulate a f) (e ∙ both-grouped)
 
--- so a scratch that received both has them at its front
+-- so a scratch that received both has them at its front; whatever the second are
+pub rest-received : (a : ℕ) (f : ℕ → ℕ) (entries scratch : List ℕ) → a + length entries ≤ length scratch
+    → received scratch (tabulate a f ++ entries) ≡ (tabulate a f ++ entries) ++ drop (a + length entries) scratch
+rest-received a f entries scratch h =
+    let size : length (tabulate a f ++ entries) ≡ a + length entries = length-append (tabulate a f) entries ∙ omega (arith, length-tabulate a f) in
+    received-front scratch (tabulate a f ++ entries) (omega arith) ∙ ap (λ (n : ℕ). (tabulate a f ++ entries) ++ drop n scratch) size
+
 pub both-received : (a b : ℕ) (f g : ℕ → ℕ) (scratch : List ℕ) → a + b ≤ length scratch
     → received scratch (tabulate a f ++ tabulate b g) ≡ (tabulate a f ++ tabulate b g) ++ drop (a + b) scratch
 both-received a b f g scratch h =
-    let size : length (tabulate a f ++ tabulate b g) ≡ a + b = length-append (tabulate a f) (tabulate b g) ∙ omega (arith, length-tabulate a f, length-tabulate b g) in
-    received-front scratch (tabulate a f ++ tabulate b g) (omega arith) ∙ ap (λ (n : ℕ). (tabulate a f ++ tabulate b g) ++ drop n scratch) size
+    let size : length (tabulate b g) ≡ b = length-tabulate b g in
+    rest-received a f (tabulate b g) scratch (omega arith) ∙ ap (λ (n : ℕ). (tabulate a f ++ tabulate b g) ++ drop (a + n) scratch) size
 
 -- the second maker is lent the part from a on of a scratch whose front the first maker has made
-pub made-part : (most₁ most₂ a b : ℕ) (f g : ℕ → ℕ) (table : List ℕ) {table₁ part : List ℕ} → a + b ≤ length table → most₁ ≤ 65535 → most₂ ≤ 65535
-    → table₁ ≡ made most₁ (tabulate a f) table → part ≡ made most₂ (tabulate b g) (midOf a (length table₁ - a) table₁)
-    → putMid a (length table₁ - a) table₁ part ≡ (tabulate a f ++ tabulate b g) ++ drop (a + b) table
-made-part most₁ most₂ a b f g table {table₁} {part} room small₁ small₂ e₁ e₂ =
+pub made-rest : (most₁ most₂ a : ℕ) (f : ℕ → ℕ) (entries table : List ℕ) {table₁ part : List ℕ} → a + length entries ≤ length table → most₁ ≤ 65535 → most₂ ≤ 65535
+    → table₁ ≡ made most₁ (tabulate a f) table → part ≡ made most₂ entries (midOf a (length table₁ - a) table₁)
+    → putMid a (length table₁ - a) table₁ part ≡ (tabulate a f ++ entries) ++ drop (a + length entries) table
+made-rest most₁ most₂ a f entries table {table₁} {part} room small₁ small₂ e₁ e₂ =
     let is : table₁ ≡ tabulate a f ++ drop a table = e₁ ∙ made-by most₁ a f table (omega arith) small₁ in
     let size : length (tabulate a f) ≡ a = length-tabulate a f in
     let front : take a table₁ ≡ tabulate a f = ap (take a) is ∙ take-at (tabulate a f) (drop a table) a size in
     let back : drop a table₁ ≡ drop a table = ap (drop a) is ∙ drop-at (tabulate a f) (drop a table) a size in
     let whole : midOf a (length table₁ - a) table₁ ≡ drop a table = take-all (length table₁ - a) (drop a table₁) (omega (arith, length-drop a table₁)) ∙ back in
-    let second : part ≡ tabulate b g ++ drop (a + b) table =
-    e₂ ∙ ap (made most₂ (tabulate b g)) whole ∙ made-by most₂ b g (drop a table) (omega (arith, length-drop a table)) small₂ ∙ ap (λ (l : List ℕ). tabulate b g ++ l) (drop-drop b a table) in
+    let second : part ≡ entries ++ drop (a + length entries) table =
+    e₂ ∙ ap (made most₂ entries) whole ∙ made-is most₂ entries (drop a table) (omega (arith, length-drop a table)) small₂ ∙ ap (λ (l : List ℕ). entries ++ l) (drop-drop (length entries) a table) in
     let none : drop (length table₁ - a) (drop a table₁) ≡ [] = drop-of-length-le (drop a table₁) {i = length table₁ - a} (omega (arith, length-drop a table₁)) in
-    rw (front, none, second) (rw append-nil (sym (append-assoc (tabulate a f) (tabulate b g) (drop (a + b) table))))
+    rw (front, none, second) (rw append-nil (sym (append-assoc (tabulate a f) entries (drop (a + length entries) table))))
+
+pub made-part : (most₁ most₂ a b : ℕ) (f g : ℕ → ℕ) (table : List ℕ) {table₁ part : List ℕ} → a + b ≤ length table → most₁ ≤ 65535 → most₂ ≤ 65535
+    → table₁ ≡ made most₁ (tabulate a f) table → part ≡ made most₂ (tabulate b g) (midOf a (length table₁ - a) table₁)
+    → putMid a (length table₁ - a) table₁ part ≡ (tabulate a f ++ tabulate b g) ++ drop (a + b) table
+made-part most₁ most₂ a b f g table room small₁ small₂ e₁ e₂ =
+    let size : length (tabulate b g) ≡ b = length-tabulate b g in
+    made-rest most₁ most₂ a f (tabulate b g) table (omega arith) small₁ small₂ e₁ e₂ ∙ ap (λ (n : ℕ). (tabulate a f ++ tabulate b g) ++ drop (a + n) table) size
 
 -- a maker that is lent just the front leaves what it would leave of the whole
 pub made-front : (most a : ℕ) (f : ℕ → ℕ) (table : List ℕ) {part : List ℕ} → a ≤ length table → most ≤ 65535 → part ≡ made most (tabulate a f) (take a table)
