@@ -12,12 +12,11 @@ use borrow.Author.Tests.{eqb-true, eqb-false, eq-eqb, ne-eqb}
 use Rattle.matching.specs.Letters.{equalOn, reach, looks}
 use Rattle.matching.specs.Machine.{firstToLast}
 use Rattle.matching.proofs.CaseAnalysis.{by-test, at-same}
-use Rattle.matching.proofs.Occurrences.{no-occurrence}
 use Rattle.matching.proofs.Letters.{pairs-take, reach-le, reach-differs, reach-reports, looks-le}
 use Rattle.matching.proofs.Machine.{Carries, Right, Sound, right-up}
 use Rattle.letter_tables.specs.Moves.{sundayMove}
 use Rattle.border_tables.specs.Moves.{kmpMove}
-use Rattle.letter_tables.proofs.Moves.{sunday-moves}
+use Rattle.letter_tables.proofs.Moves.{sunday-right}
 use Rattle.border_tables.proofs.Moves.{kmp-moves}
 use Rattle.fjs.specs.Fjs.{endEqual, before, ended, fresh, step, window}
 
@@ -83,9 +82,7 @@ right-none P T s inside c =
       few = omega (arith, looks-le (length P - 1) (min (length P - 1) (reach P T s 0)) (omega arith));
       moves = kmp-moves P T s 0 inside c;
     }))
-    (λ e.
-    rw (window-end P T s (eqb-false p t e))
-    (record { reports = sym (no-occurrence P T s some (λ st. eqb-false p t e (st .letters (length P - 1) (omega arith)))); few = omega arith; moves = sunday-moves P T s some }))
+    (λ e. rw (window-end P T s (eqb-false p t e)) (sunday-right P T s (length P - 1) (omega arith) (eqb-false p t e)))
 
 pub sound : (P T : List ℕ) → 1 ≤ length P → Sound window P T
 sound P T h = record { some = h; right = right }

@@ -4,6 +4,7 @@
 use mathlib.Core.Path.{_≡_, sym, subst}
 use Prim.Native.Nat.{ℕ, _+_, _-_, _≤_, _<_}
 use native.Mathlib.Omega.{arith}
+use mathlib.Core.Bool.{false}
 use mathlib.Core.List.{List}
 use lib.ListN.{length, getD}
 use lib.Dec.{ltb}
@@ -11,8 +12,8 @@ use borrow.Author.Tests.{lt-ltb, le-ltb, ltb-true, ltb-false}
 use Rattle.matching.specs.Machine.{stop, at}
 use Rattle.matching.specs.Find.{Engine}
 use Rattle.matching.proofs.CaseAnalysis.{by-test}
-use Rattle.matching.proofs.Occurrences.{Stands}
-use Rattle.matching.proofs.Machine.{carries-none, Moves}
+use Rattle.matching.proofs.Occurrences.{Stands, no-occurrence}
+use Rattle.matching.proofs.Machine.{carries-none, Moves, Right}
 use Rattle.matching.proofs.Progress.{Progress, Over, stopped}
 use Rattle.tables.proofs.Tables.{Reads}
 use Rattle.letter_tables.specs.BadCharacter.{sundayEntry, horspoolEntry, delta1Entry}
@@ -71,6 +72,12 @@ sunday-moves P T s h =
       hands = carries-none P T (s + sundayEntry P c) h;
     }))
     (λ e. rw (sunday-stop P T s (ltb-false p (length T) e)) (record { ahead = tt; skips = λ k l b st. omega (arith, ltb-false p (length T) e, st .inside); hands = tt }))
+
+-- a window that looks at one letter, finds it unequal and moves by the rule is right, whichever letter it is
+pub sunday-right : (P T : List ℕ) (s i : ℕ) → i < length P → (getD P i 0 ≡ getD T (s + i) 0 → ⊥) → Right P T s (record { compared = 1; stands = false; next = sundayMove P T s })
+sunday-right P T s i h differs =
+    let some : 1 ≤ length P = omega arith in
+    record { reports = sym (no-occurrence P T s some (λ st. differs (st .letters i h))); few = omega arith; moves = sunday-moves P T s some }
 
 -- ---- DELTA1
 
