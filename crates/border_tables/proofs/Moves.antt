@@ -1,7 +1,8 @@
--- What engines cite of borders: a move by KMP's rule, or after an occurrence by the longest proper border, goes on, passes over no occurrence, and carries letters that are
--- equal (`Moves`, of the window machine).
+-- What engines cite of borders: a move by KMP's rule, by MAX_Shift, or after an occurrence by the longest proper border, goes on, passes over no occurrence, and carries letters
+-- that are equal (`Moves`, of the window machine).
 -- And what KMP's move pays for the looks of its window (`Paid`, `Pays`). All of it is shown from the rule alone, never from how the table is filled. Assumes nothing.
-use mathlib.Core.Path.{_≡_, sym, ap, ap₂, subst, _∙_}
+use mathlib.Core.Path.{_≡_, refl, sym, ap, ap₂, subst, _∙_}
+use mathlib.Core.Logic.{⊎-elim}
 use Prim.Native.Nat.{ℕ, suc, _+_, _-_, _*_, _≤_, _<_}
 use native.Mathlib.Omega.{arith}
 use native.Mathlib.Nat.{mul-add, suc-mul, le-mul-of-pos-right}
@@ -17,10 +18,14 @@ use Rattle.matching.proofs.Machine.{Carries, carries-none, Moves}
 use Rattle.matching.proofs.Costs.{Paid, Pays}
 use Rattle.matching.proofs.Progress.{Progress}
 use Rattle.tables.proofs.Tables.{Reads}
+use Rattle.letter_tables.specs.Gaps.{md, mdp}
+use Rattle.letter_tables.proofs.Gaps.{md-pos, gap-safe}
 use Rattle.border_tables.specs.Kmp.{longestBorder, kmpEntry}
-use Rattle.border_tables.specs.Moves.{kmpMove, borderMove}
+use Rattle.border_tables.specs.MaxShift.{maxShift}
+use Rattle.border_tables.specs.Moves.{kmpMove, borderMove, maxMove}
 use Rattle.border_tables.proofs.Borders.{Border}
 use Rattle.border_tables.proofs.Kmp.{kmpEntry-le, kmpEntry-rule, longestBorder-rule}
+use Rattle.border_tables.proofs.MaxShift.{shift-cases}
 
 -- where the first r letters of the window are equal, and the next, if there is one, is not
 
@@ -99,3 +104,30 @@ pub border-moves : (P T : List ℕ) (s : ℕ) → 1 ≤ length P → Stands P T 
 unfolding borderMove
 border-moves P T s h here =
     record { ahead = omega (arith, longestBorder-rule P h .low); skips = border-safe P T s h here; hands = carries-none P T (s + (length P - longestBorder P)) h }
+
+-- ---- by MAX_Shift
+
+pub max-next : (P : List ℕ) (s r d s′ q′ : ℕ) → d ≡ maxShift P r → s′ ≡ s + d → q′ ≡ r - d → maxMove P s r ≡ at s′ q′
+unfolding maxMove
+max-next P s r d s′ q′ e f g = ap₂ at (omega arith) (omega arith)
+
+-- where it is md, the next window starts past every letter that was equal, and Fact 3 rules out an occurrence before it; where it is KMP's shift, the move is KMP's
+pub max-moves : (P T : List ℕ) (s : ℕ) → s + length P ≤ length T → 1 ≤ length P → getD P (mdp P - 1) 0 ≡ getD T (s + (mdp P - 1)) 0 → Moves P T s (maxMove P s (reach P T s 0))
+max-moves P T s inside some equal =
+    let r : ℕ = reach P T s 0 in
+    let none : Carries P T s 0 = carries-none P T s some in
+    ⊎-elim
+    (λ w.
+    rw (max-next P s r (md P) (s + md P) 0 (sym (w .0)) (omega arith) (omega (arith, w .1)))
+    (record { ahead = omega (arith, md-pos P some); skips = gap-safe P some T s equal; hands = carries-none P T (s + md P) some }))
+    (λ w.
+    let b : ℕ = kmpEntry P r in
+    let d : ℕ = suc r - b in
+    let le : b ≤ r = kmpEntry-le P r in
+    rw (max-next P s r d (s + d) (b - 1) (sym w) (omega arith) (omega arith) ∙ sym (kmp-next P s r b (s + d) (b - 1) refl (omega arith) (omega arith)))
+    (kmp-moves P T s 0 inside none))
+    (shift-cases P r)
+
+pub max-goes : {e : Engine} {P T list₀ list : List ℕ} {total compared : ℕ} (s k : ℕ) {d q : ℕ} → Progress e P T list₀ (maxMove P s k) total compared list → Reads d (maxShift P k) 1 (length P) → q ≡ k - d
+    → Progress e P T list₀ (at (s + d) q) total compared list
+max-goes {e} {P} {T} {list₀} {list} {total} {compared} s k {d} {q} p r c = subst (λ x. Progress e P T list₀ x total compared list) (max-next P s k d (s + d) q (r .is) (omega arith) c) p

@@ -1,3 +1,4 @@
--- The rule of the table by borders, what its maker leaves, and the move that engines make by it.
+-- The rules of the tables by borders, what their makers leave, and the moves that engines make by them.
 pub mod Kmp
+pub mod MaxShift
 pub mod Moves

@@ -1,8 +1,11 @@
-// The table by borders: KMP's maker, which writes only its own entries into a lent table of 16-bit numbers; and the move by the longest proper border, which has no table.
-// It depends on `tables`, and on `matching` for what an occurrence and a move are. Engines know the table by its rule alone (specs/), and prove their skips from
-// the laws that stand beside it (proofs/Moves.antt). A table too short, or a pattern so long that an entry could pass 16 bits, leaves everything as before.
+// The tables by borders: the makers of KMP's and of MAX_Shift, which write only their own entries into a lent table of 16-bit numbers; and the move by the longest proper border, which has none.
+// It depends on `tables`, on `letter_tables` for the widest gap, and on `matching` for what an occurrence and a move are. Engines know a table by its rule alone (specs/), and prove their
+// skips from the laws that stand beside it (proofs/Moves.antt). A table too short, or a pattern so long that an entry could pass 16 bits, leaves everything as before.
+use letter_tables::Gap;
 ghost use mathlib.Core.Path.{_≡_};
+ghost use Rattle.letter_tables.specs.Gaps.{gapFound};
 ghost use Rattle.border_tables.specs.Kmp.{kmpMade};
+ghost use Rattle.border_tables.specs.MaxShift.{maxShiftMade};
 
 // The KMP entries b[1] to b[m + 1] at the table's front, as source document 001, Algorithm 1, which holds j - b[j] in place of b[j].
 // Linear in m: a turn of the outer loop raises q by 1 and j by 1, and a turn of the inner loop lowers j, since b[j] is below j; so the inner
@@ -38,4 +41,34 @@ pub fn kmp_table(pattern: &[u8], table: &mut [u16])
         }
         table[q] = entry;
     }
+}
+
+// The KMP entries at the table's front, and MAX_Shift[1] to MAX_Shift[m + 1] after them (source document 001, Algorithm 5). The widest gap, which it has to find for them, is handed back.
+// Linear in m: the KMP table, the gap, and one turn a shift.
+pub fn max_shift_table(pattern: &[u8], table: &mut [u16]) -> Gap
+    ensures { λ r. ⌜ (r ≡ gapFound (now (pattern .entry))) × (now (table .exit) ≡ maxShiftMade (now (pattern .entry)) (now (table .entry))) ⌝ }
+{
+    let m = pattern.len();
+    let widest = letter_tables::widest_gap(pattern);
+    if 65535 < m {
+        return widest;
+    }
+    if table.len() < m + 1 + (m + 1) {
+        return widest;
+    }
+    kmp_table(pattern, table);
+    let md = widest.width as u16;
+    let mut q = 0;
+    while q <= m {
+        let equal = q as u16; // as many letters are equal before letter j
+        let mut shift = equal - table[q] + 1;
+        if shift <= md {
+            if equal <= md {
+                shift = md;
+            }
+        }
+        table[m + 1 + q] = shift;
+        q += 1;
+    }
+    widest
 }

@@ -7,10 +7,11 @@ use mathlib.Core.Bool.{true, false}
 use mathlib.Core.List.{List}
 use lib.ListN.{length}
 use lib.Dec.{eqb}
-use borrow.Author.Tests.{eqb-true, eq-eqb, ne-eqb, eqb-false, ltb-false, le-ltb}
+use borrow.Author.Tests.{eqb-true, eq-eqb, ne-eqb, eqb-false, ltb-false, le-ltb, lt-ltb}
 use Rattle.matching.specs.declared.Finding.{Finding}
 use Rattle.matching.specs.Occurrences.{occurrences}
 use Rattle.matching.specs.Received.{received}
+use Rattle.matching.specs.Refusals.{firstMet}
 use Rattle.matching.specs.Machine.{runFrom, comparedIn}
 use Rattle.matching.specs.Find.{findTests, refusal, Engine, compared, refusalOf, Found, Longer}
 use Rattle.matching.proofs.CaseAnalysis.{by-test}
@@ -38,6 +39,11 @@ pub none-refused : (m n has needs : ℕ) → Within m n has needs → refusal m 
 unfolding refusal Passed
 none-refused m n has needs w =
     none-met (findTests m n has needs) (ne-eqb m 0 (λ e. omega (arith, w .some)), (le-ltb 1024 m (w .short), (le-ltb 32768 n (w .small), (le-ltb has needs (w .room), tt))))
+
+-- a pattern that is too long is refused whatever scratch it needs
+pub long-refused : (m n has needs needs′ : ℕ) → 1024 < m → refusal m n has needs ≡ refusal m n has needs′
+unfolding refusal firstMet
+long-refused m n has needs needs′ h = rw (ne-eqb m 0 (λ e. omega arith), lt-ltb 1024 m h)
 
 -- a refusal's number is at most 5
 pub refusal-most : (m n has needs : ℕ) → refusal m n has needs ≤ 5

@@ -127,6 +127,28 @@ tabulate-at n rule more i h = List·getD-append (tabulate n rule) more 0 i (omeg
 pub tabulate-is : (n : ℕ) (rule : ℕ → ℕ) (l : List ℕ) → length l ≡ n → ((i : ℕ) → i < n → getD l i 0 ≡ rule i) → l ≡ tabulate n rule
 tabulate-is n rule l long entry = ext-getD 0 l (tabulate n rule) (long ∙ sym (length-tabulate n rule)) (λ i h. let h′ : i < n = omega arith in entry i h′ ∙ sym (getD-tabulate n rule i h′))
 
+-- one rule after another: the first a entries by f, and those after them by g
+abbrev pub then : ℕ → (ℕ → ℕ) → (ℕ → ℕ) → ℕ → ℕ
+then a f g i = cond (ltb i a) (f i) (g (i - a))
+
+pub then-first : (a : ℕ) (f g : ℕ → ℕ) (i : ℕ) → i < a → f i ≡ then a f g i
+then-first a f g i h = rw (lt-ltb i a h)
+
+pub then-next : (a : ℕ) (f g : ℕ → ℕ) (i : ℕ) → g i ≡ then a f g (a + i)
+then-next a f g i = let e : a + i - a ≡ i = omega arith in rw (le-ltb (a + i) a (omega arith), e)
+
+pub tabulate-then : (a b : ℕ) (f g : ℕ → ℕ) → tabulate (a + b) (then a f g) ≡ tabulate a f ++ tabulate b g
+tabulate-then a b f g =
+    let front : length (tabulate a f) ≡ a = length-tabulate a f in
+    sym
+    (tabulate-is (a + b) (then a f g) (tabulate a f ++ tabulate b g) (length-append (tabulate a f) (tabulate b g) ∙ omega (arith, length-tabulate b g))
+    (λ i h.
+    by-test (λ t. getD (tabulate a f ++ tabulate b g) i 0 ≡ cond t (f i) (g (i - a))) (ltb i a)
+    (λ t. tabulate-at a f (tabulate b g) i (ltb-true i a t))
+    (λ t.
+    let low : a ≤ i = ltb-false i a t in
+    at-same (tabulate a f ++ tabulate b g) {j = length (tabulate a f) + (i - a)} (omega arith) ∙ getD-append-add (tabulate a f) (tabulate b g) (i - a) 0 ∙ getD-tabulate b g (i - a) (omega arith))))
+
 -- ---- a lent table, which was table₀, while it is filled: the first n entries follow a rule, and what comes after them is as it was
 
 pub record Ruled (n : ℕ) (rule : ℕ → ℕ) (table₀ table : List ℕ) : Type 0 where
@@ -146,16 +168,20 @@ ruled-is {n} {rule} {table₀} {table} r =
 pub ruled-none : (rule : ℕ → ℕ) (table : List ℕ) → Ruled 0 rule table table
 ruled-none rule table = record { entry = λ c h. absurd (omega arith); kept = refl; room = omega arith; long = refl }
 
--- the first n are one value
-pub ruled-all : (n v : ℕ) (table : List ℕ) → n ≤ length table → Ruled n (λ _. v) table (replicate n v ++ drop n table)
-ruled-all n v table h =
-    let size : length (replicate n v) ≡ n = length-replicate n v in
+-- the first n follow it
+pub ruled-front : (n : ℕ) (rule : ℕ → ℕ) (table : List ℕ) → n ≤ length table → Ruled n rule table (tabulate n rule ++ drop n table)
+ruled-front n rule table h =
+    let size : length (tabulate n rule) ≡ n = length-tabulate n rule in
     record {
-      entry = λ c l. List·getD-append (replicate n v) (drop n table) 0 c (omega arith) ∙ getD-replicate n c v 0 l;
-      kept = drop-at (replicate n v) (drop n table) n size;
-      room = omega (arith, length-append (replicate n v) (drop n table));
-      long = length-append (replicate n v) (drop n table) ∙ omega (arith, length-drop n table);
+      entry = λ c l. tabulate-at n rule (drop n table) c l;
+      kept = drop-at (tabulate n rule) (drop n table) n size;
+      room = omega (arith, length-append (tabulate n rule) (drop n table));
+      long = length-append (tabulate n rule) (drop n table) ∙ omega (arith, length-drop n table);
     }
+
+-- and are one value
+pub ruled-all : (n v : ℕ) (table : List ℕ) → n ≤ length table → Ruled n (λ _. v) table (replicate n v ++ drop n table)
+ruled-all n v table h = rw (tabulate-is n (λ _. v) (replicate n v) (length-replicate n v) (λ i l. getD-replicate n i v 0 l)) (ruled-front n (λ _. v) table h)
 
 -- the next entry is set
 pub ruled-next : {n : ℕ} {rule : ℕ → ℕ} {table₀ table : List ℕ} → n < length table₀ → Ruled n rule table₀ table → (v : ℕ) → v ≡ rule n → Ruled (suc n) rule table₀ (set table n v)
