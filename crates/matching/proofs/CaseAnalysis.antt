@@ -1,6 +1,7 @@
 -- Case analysis on a test that computes. Assumes nothing.
 use mathlib.Core.Path.{_≡_, refl, sym, ap}
-use Prim.Native.Nat.{ℕ, _≤_}
+use Prim.Native.Nat.{ℕ, suc, _≤_}
+use native.Mathlib.Omega.{arith}
 use mathlib.Core.Bool.{Bool, true, false, cond, _&&_, _||_, false≢true}
 use mathlib.Core.List.{List}
 use lib.ListN.{getD}
@@ -24,6 +25,13 @@ either false b e f = e
 pub cond-most : (t : Bool) {x y n : ℕ} → x ≤ n → y ≤ n → cond t x y ≤ n
 cond-most true h k = h
 cond-most false h k = k
+
+-- from number to number, since `omega` takes six facts of the kind "is not" at once: every number is from 0 on, and one from k on that is not k is from k + 1 on
+pub any : {n : ℕ} → 0 ≤ n
+any = omega arith
+
+pub beyond : (k : ℕ) {n : ℕ} → k ≤ n → (n ≡ k → ⊥) → suc k ≤ n
+beyond k h other = omega (arith, other)
 
 -- the same letter at the same place
 pub at-same : (l : List ℕ) {i j : ℕ} → i ≡ j → getD l i 0 ≡ getD l j 0

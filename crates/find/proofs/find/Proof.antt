@@ -1,11 +1,12 @@
 -- `find::find` meets its contract: each arm is the find of its number's engine. Assumes nothing.
 use borrow.Author.Needs.{needs}
 use mathlib.Core.Path.{_≡_, refl}
-use Prim.Native.Nat.{ℕ, suc, _≤_}
+use Prim.Native.Nat.{ℕ, _≤_}
 use native.Mathlib.Omega.{arith}
 use mathlib.Core.List.{List}
 use Rattle.matching.specs.declared.Finding.{Finding}
 use Rattle.matching.specs.Find.{Found}
+use Rattle.matching.proofs.CaseAnalysis.{any, beyond}
 use Rattle.find.specs.Find.{engineOf, Answered}
 use Rattle.find.proofs.find.Statement.{statement}
 use Rattle.find.proofs.find.Tie as tie
@@ -20,13 +21,7 @@ by-engine : (k : ℕ) {method : ℕ} {P T scratch list : List ℕ} {r : Finding}
     → Answered method P T scratch list r scratch′ list′
 by-engine k e h f = record { refused = λ m. absurd (omega arith); found = λ _. rw e f }
 
--- from number to number: every number is from 0 on, one from k on that is not k is from k + 1 on, and none of the seven is above 6
-any : {method : ℕ} → 0 ≤ method
-any = omega arith
-
-past : (k : ℕ) {method : ℕ} → k ≤ method → (method ≡ k → ⊥) → suc k ≤ method
-past k h other = omega (arith, other)
-
+-- none of the seven numbers is above 6
 above : {method : ℕ} → method ≤ 6 → 7 ≤ method → ⊥
 above h l = omega arith
 
@@ -126,7 +121,7 @@ returns-8 c =
     let r = c .match .rest in
     record {
       refused = λ h. (refl, (refl, refl));
-      found = λ h. absurd (above h (past 6 (past 5 (past 4 (past 3 (past 2 (past 1 (past 0 any (r .0 .0 .0 .0 .0 .0 .1)) (r .0 .0 .0 .0 .0 .1)) (r .0 .0 .0 .0 .1)) (r .0 .0 .0 .1)) (r .0 .0 .1)) (r .0 .1)) (r .1)));
+      found = λ h. absurd (above h (beyond 6 (beyond 5 (beyond 4 (beyond 3 (beyond 2 (beyond 1 (beyond 0 any (r .0 .0 .0 .0 .0 .0 .1)) (r .0 .0 .0 .0 .0 .1)) (r .0 .0 .0 .0 .1)) (r .0 .0 .0 .1)) (r .0 .0 .1)) (r .0 .1)) (r .1)));
     }
 
 pub find-spec : {M : Type 1} → statement M
