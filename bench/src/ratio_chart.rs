@@ -22,16 +22,25 @@ const TICKS: [f64; 6] = [0.5, 0.7, 1.0, 1.3, 1.7, 2.3];
 
 /// Draws the chart.
 pub fn draw(results: &Results) -> String {
-    let width = LEFT + COLUMNS as f64 * (PANEL.0 + GAP.0);
-    let height = TOP + 2.0 * (PANEL.1 + GAP.1) - 20.0;
+    let (width, height) = size();
     let mut svg = Svg::new(width, height, "The library's time over that of the same engine in C, by engine and text", STYLE);
     svg.words((LEFT, 30.0), Anchor::Start, "heading", "Time of the library over the time of the same engine in C");
     legend(&mut svg);
     for (index, method) in Method::ALL.into_iter().enumerate() {
-        let corner = (LEFT + (index % COLUMNS) as f64 * (PANEL.0 + GAP.0), TOP + (index / COLUMNS) as f64 * (PANEL.1 + GAP.1));
-        panel(&mut svg, corner, method, results);
+        panel(&mut svg, corner(index), method, results);
     }
     svg.finish()
+}
+
+/// The chart's width and height, with as many rows of panels as the engines need.
+fn size() -> (f64, f64) {
+    let rows = Method::ALL.len().div_ceil(COLUMNS);
+    (LEFT + COLUMNS as f64 * (PANEL.0 + GAP.0), TOP + rows as f64 * (PANEL.1 + GAP.1) - 20.0)
+}
+
+/// Where the panel of that index begins.
+fn corner(index: usize) -> (f64, f64) {
+    (LEFT + (index % COLUMNS) as f64 * (PANEL.0 + GAP.0), TOP + (index / COLUMNS) as f64 * (PANEL.1 + GAP.1))
 }
 
 fn legend(svg: &mut Svg) {
@@ -102,4 +111,18 @@ fn lanes(svg: &mut Svg, top: f64, scale: &Scale, method: Method, family: Family,
 /// What the chart shows, for the page that it stands in.
 pub fn caption() -> String {
     format!("Dots below {} or above {} stand at the edge. Texts have {} or {} letters.", ENDS.0, ENDS.1, grouped(LENGTHS[0]), grouped(LENGTHS[1]))
+}
+
+#[cfg(test)]
+mod tests {
+    use super::*;
+
+    #[test]
+    fn every_panel_lies_within_the_chart() {
+        let (width, height) = size();
+        for index in 0..Method::ALL.len() {
+            let (left, top) = corner(index);
+            assert!(left + PANEL.0 < width && top + PANEL.1 < height, "panel {index}");
+        }
+    }
 }
