@@ -14,7 +14,7 @@ const BUILDS: [(&str, &[&str]); 3] = [
 ];
 
 /// The files of `c/` and the function that each defines.
-const TWINS: [(&str, &str); 9] = [
+const TWINS: [(&str, &str); 10] = [
     ("naive", "twin_naive"),
     ("kmp", "twin_kmp"),
     ("horspool", "twin_horspool"),
@@ -22,6 +22,7 @@ const TWINS: [(&str, &str); 9] = [
     ("fjs", "twin_fjs"),
     ("double_window", "twin_double_window"),
     ("boyer_moore", "twin_boyer_moore"),
+    ("improved_fjs", "twin_improved_fjs"),
     ("memmem", "twin_memmem"),
     ("cue_book", "twin_read_book"),
 ];

@@ -6,13 +6,13 @@
 
 int main(void)
 {
-    static const char *const names[] = {"naive", "kmp", "horspool", "sunday", "fjs", "double", "bm"};
+    static const char *const names[] = {"naive", "kmp", "horspool", "sunday", "fjs", "double", "bm", "improved"};
     static uint16_t scratch[LIBRETTO_SCRATCH_MAX];
     const char *phrase = "lala";
     const char *text = "la lala, tralalala,\nla la lala";
     uint32_t list[8];
 
-    for (uint32_t method = LIBRETTO_NAIVE; method <= LIBRETTO_BOYER_MOORE; method++) {
+    for (uint32_t method = LIBRETTO_NAIVE; method <= LIBRETTO_IMPROVED_FJS; method++) {
         libretto_finding found = libretto_find(method, (const uint8_t *)phrase, strlen(phrase), (const uint8_t *)text, strlen(text),
                                                scratch, LIBRETTO_SCRATCH_MAX, list, sizeof list / sizeof *list);
         if (found.refusal != LIBRETTO_OK) {

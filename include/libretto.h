@@ -28,7 +28,8 @@ enum libretto_method {
     LIBRETTO_SUNDAY = 3,
     LIBRETTO_FJS = 4,
     LIBRETTO_DOUBLE_WINDOW = 5,
-    LIBRETTO_BOYER_MOORE = 6
+    LIBRETTO_BOYER_MOORE = 6,
+    LIBRETTO_IMPROVED_FJS = 7
 };
 
 /* The scratch entries that a method needs for a phrase of m bytes. */
@@ -39,8 +40,9 @@ enum libretto_method {
 #define LIBRETTO_SCRATCH_FJS(m) ((size_t)(m) + 257)
 #define LIBRETTO_SCRATCH_DOUBLE_WINDOW(m) ((size_t)256)
 #define LIBRETTO_SCRATCH_BOYER_MOORE(m) ((size_t)(m) + 256)
-/* As many as any find needs: FJS with the longest phrase. */
-#define LIBRETTO_SCRATCH_MAX LIBRETTO_SCRATCH_FJS(LIBRETTO_PHRASE_MAX)
+#define LIBRETTO_SCRATCH_IMPROVED_FJS(m) (2 * (size_t)(m) + 258)
+/* As many as any find needs: improved FJS with the longest phrase. */
+#define LIBRETTO_SCRATCH_MAX LIBRETTO_SCRATCH_IMPROVED_FJS(LIBRETTO_PHRASE_MAX)
 
 /* The limits of a cue book: the most cues, the longest title in bytes, the largest ordinal, and the bytes of the longest cue. */
 #define LIBRETTO_CUES_MAX 999
@@ -57,7 +59,7 @@ enum libretto_method {
 /* Why a call was refused. They are tested in this order, and the first that applies is returned; only 7 to 9 come as the book is read. */
 enum libretto_refusal {
     LIBRETTO_OK = 0,             /* not refused */
-    LIBRETTO_UNKNOWN_METHOD = 1, /* the method is above 6 */
+    LIBRETTO_UNKNOWN_METHOD = 1, /* the method is above 7 */
     LIBRETTO_NO_PHRASE = 2,      /* the phrase has 0 bytes */
     LIBRETTO_LONG_PHRASE = 3,    /* the phrase has more than 1,024 bytes */
     LIBRETTO_LONG_TEXT = 4,      /* the text has more than 32,768 bytes */
@@ -83,7 +85,7 @@ typedef struct {
  * Afterwards the list holds the first places, rising, up to its length, and its entries past those keep their values; the total is full also where
  * the list is shorter, and a short list is no refusal. The scratch's front holds the method's tables, and its entries past them keep their values.
  * What scratch and list held before plays no part. A refused call leaves both as they were. Scratch and list must not overlap each other or the
- * phrase or the text. Boyer-Moore also works in 2,050 bytes of the stack. */
+ * phrase or the text. Boyer-Moore also works in 2,050 bytes of the stack, improved FJS in 512. */
 libretto_finding libretto_find(uint32_t method, const uint8_t *phrase, size_t phrase_len, const uint8_t *text, size_t text_len,
                                uint16_t *scratch, size_t scratch_len, uint32_t *list, size_t list_len);
 

@@ -1,4 +1,4 @@
-/* The library's seven engines and its book reader written again in plain C, from the steps of documents 01 and 02, to measure the library against.
+/* The library's eight engines and its book reader written again in plain C, from the steps of documents 01 and 02, to measure the library against.
  *
  * Each twin takes the memory that the library is lent and leaves it the same: its tables at the scratch's front, the first places in the list. What
  * the library refuses is not tested here: the phrase has 1 to 1,024 bytes, the text at most 32,768, the scratch is long enough, and nothing overlaps.
@@ -29,6 +29,8 @@ struct twin_finding twin_double_window(const uint8_t *phrase, size_t m, const ui
                                        uint32_t *restrict list, size_t list_len);
 struct twin_finding twin_boyer_moore(const uint8_t *phrase, size_t m, const uint8_t *text, size_t n, uint16_t *restrict scratch,
                                      uint32_t *restrict list, size_t list_len);
+struct twin_finding twin_improved_fjs(const uint8_t *phrase, size_t m, const uint8_t *text, size_t n, uint16_t *restrict scratch,
+                                      uint32_t *restrict list, size_t list_len);
 
 /* Every place of the phrase by glibc's memmem, called again one letter after each place; it counts no comparisons and gives the total. */
 uint32_t twin_memmem(const uint8_t *phrase, size_t m, const uint8_t *text, size_t n, uint32_t *restrict list, size_t list_len);

@@ -18,7 +18,7 @@ text { font-family: system-ui, -apple-system, 'Segoe UI', 'DejaVu Sans', sans-se
 .short { fill: #fff; fill-opacity: 0; stroke: #c9730a; stroke-width: 1.4; }
 .long-mean { stroke: #1f6fd0; stroke-width: 2.5; }
 .short-mean { stroke: #c9730a; stroke-width: 2.5; }
-.naive, .kmp, .horspool, .sunday, .fjs, .double, .bm { fill: none; stroke-width: 1.5; }
+.naive, .kmp, .horspool, .sunday, .fjs, .double, .bm, .improved { fill: none; stroke-width: 1.5; }
 .naive { stroke: #8a8a86; stroke-dasharray: 2 2; }
 .kmp { stroke: #1f6fd0; stroke-width: 2.6; }
 .horspool { stroke: #2a9461; stroke-dasharray: 7 3; }
@@ -26,6 +26,7 @@ text { font-family: system-ui, -apple-system, 'Segoe UI', 'DejaVu Sans', sans-se
 .fjs { stroke: #cf3f57; stroke-width: 2.6; }
 .double { stroke: #8552c9; stroke-dasharray: 9 2 2 2; }
 .bm { stroke: #0f8b8d; stroke-dasharray: 12 3; }
+.improved { stroke: #b0408f; stroke-dasharray: 6 2 1 2; }
 @media (prefers-color-scheme: dark) {
 text { fill: #ccc; }
 .heading { fill: #f2f2f2; }
@@ -48,6 +49,7 @@ text { fill: #ccc; }
 .fjs { stroke: #ff7d8f; }
 .double { stroke: #c29bff; }
 .bm { stroke: #4fd0d2; }
+.improved { stroke: #ee8fd0; }
 }
 ";
 
@@ -86,6 +88,7 @@ pub fn heading(method: Method) -> &'static str {
         Method::Fjs => "FJS",
         Method::DoubleWindow => "Double window",
         Method::BoyerMoore => "Boyer-Moore",
+        Method::ImprovedFjs => "Improved FJS",
     }
 }
 

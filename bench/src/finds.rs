@@ -48,7 +48,7 @@ pub fn classes<'a>(texts: &'a [Text], checker: &mut Checker) -> Vec<Class<'a>> {
     classes
 }
 
-/// The sides of a class: seven engines with their twins and their references, and `memmem`.
+/// The sides of a class: eight engines with their twins and their references, and `memmem`.
 pub struct Contest<'a> {
     engines: Vec<EngineSides<'a>>,
     memmem: Side<'a>,

@@ -72,8 +72,9 @@ fn panel(svg: &mut Svg, (left, top): (f64, f64), axes: &Axes<'_>, family: &Grown
 }
 
 /// The engines whose growth is promised come last, so that their lines lie above the others.
-fn order() -> [Method; 7] {
-    [Method::Naive, Method::Horspool, Method::Sunday, Method::DoubleWindow, Method::BoyerMoore, Method::Kmp, Method::Fjs]
+fn order() -> [Method; 8] {
+    use Method::*;
+    [Naive, Horspool, Sunday, DoubleWindow, BoyerMoore, ImprovedFjs, Kmp, Fjs]
 }
 
 fn legend(svg: &mut Svg, (left, top): (f64, f64)) {

@@ -3,8 +3,8 @@
 use crate::random::Random;
 use libretto::{Method, ResolverMemory, CUES_MAX, CUE_ENTRIES, PHRASE_BUFFER, PHRASE_MAX, RESOLVER_SCRATCH, TEXT_MAX};
 
-/// The scratch entries that are enough for every engine and for the resolver: FJS needs the most.
-const SCRATCH: usize = Method::Fjs.scratch_entries(PHRASE_MAX);
+/// The scratch entries that are enough for every engine and for the resolver: improved FJS needs the most.
+const SCRATCH: usize = Method::ImprovedFjs.scratch_entries(PHRASE_MAX);
 
 /// The list's entries, as many as the finder program lends.
 pub const LIST: usize = 4096;

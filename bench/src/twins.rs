@@ -30,7 +30,7 @@ type ReadBook = unsafe extern "C" fn(*const u8, usize) -> TwinAnswer;
 
 /// The twins compiled with one placement of code.
 pub struct Build {
-    finds: [Find; 7],
+    finds: [Find; 8],
     read_book: ReadBook,
 }
 
@@ -50,9 +50,9 @@ macro_rules! builds {
 }
 
 builds! {
-    twin_read_book_plain: twin_naive_plain twin_kmp_plain twin_horspool_plain twin_sunday_plain twin_fjs_plain twin_double_window_plain twin_boyer_moore_plain;
-    twin_read_book_wide: twin_naive_wide twin_kmp_wide twin_horspool_wide twin_sunday_wide twin_fjs_wide twin_double_window_wide twin_boyer_moore_wide;
-    twin_read_book_packed: twin_naive_packed twin_kmp_packed twin_horspool_packed twin_sunday_packed twin_fjs_packed twin_double_window_packed twin_boyer_moore_packed;
+    twin_read_book_plain: twin_naive_plain twin_kmp_plain twin_horspool_plain twin_sunday_plain twin_fjs_plain twin_double_window_plain twin_boyer_moore_plain twin_improved_fjs_plain;
+    twin_read_book_wide: twin_naive_wide twin_kmp_wide twin_horspool_wide twin_sunday_wide twin_fjs_wide twin_double_window_wide twin_boyer_moore_wide twin_improved_fjs_wide;
+    twin_read_book_packed: twin_naive_packed twin_kmp_packed twin_horspool_packed twin_sunday_packed twin_fjs_packed twin_double_window_packed twin_boyer_moore_packed twin_improved_fjs_packed;
 }
 
 type LibraryFind = unsafe extern "C" fn(u32, *const u8, usize, *const u8, usize, *mut u16, usize, *mut u32, usize) -> RawFinding;

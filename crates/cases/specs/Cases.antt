@@ -1,4 +1,4 @@
--- The starred cases of document 01, "Refrains to try", and the cases that document 02, (ii), names: one table, and what it means for a row to hold.
+-- The starred cases of document 01, "Refrains to try", and the cases that document 02, (ii) and (x), names: one table, and what it means for a row to hold.
 use Prim.Native.Nat.{ℕ, suc, _-_}
 use mathlib.Core.Bool.{Bool, true, false, cond, _&&_}
 use mathlib.Core.List.{List, [], _∷_, _++_}
@@ -9,7 +9,9 @@ use Rattle.matching.specs.Machine.{run, runFrom, positionsIn}
 use Rattle.matching.specs.Find.{Engine, compared}
 use Rattle.tables.specs.Tables.{tabulate}
 use Rattle.letter_tables.specs.BadCharacter.{lastIn, sundayTable, horspoolTable}
+use Rattle.letter_tables.specs.Gaps.{gap, widest, md, widestAt, mdp}
 use Rattle.border_tables.specs.Kmp.{kmpEntry, kmpTable}
+use Rattle.border_tables.specs.MaxShift.{maxShift, maxShiftTable}
 use Rattle.suffix_tables.specs.Delta2.{shift, delta2Table}
 use Rattle.naive.specs.Naive.{naive}
 use Rattle.kmp.specs.Kmp.{kmp}
@@ -19,6 +21,8 @@ use Rattle.fjs.specs.Fjs.{window, fjs}
 use Rattle.double_window.specs.DoubleWindow.{doubleWindow}
 use Rattle.boyer_moore.specs.BoyerMoore as bm
 use Rattle.boyer_moore.specs.BoyerMoore.{boyerMoore}
+use Rattle.improved_fjs.specs.ImprovedFjs as improved
+use Rattle.improved_fjs.specs.ImprovedFjs.{improvedFjs}
 use Rattle.fold.specs.Fold.{folded}
 use Rattle.cues.specs.Cue.{Cue, cueWith}
 use Rattle.cue_book.specs.Book.{bookBytes}
@@ -34,6 +38,10 @@ pub data Case : Type 0 where
   horspoolEntries : List ℕ → List ℕ → List ℕ → ℕ → Case
   -- DELTA2 of 1 to m of a pattern
   delta2Entries : List ℕ → List ℕ → Case
+  -- the gaps d[1] to d[m] of a pattern, md and mdp
+  gaps : List ℕ → List ℕ → ℕ → ℕ → Case
+  -- MAX_Shift[1] to MAX_Shift[m + 1] of a pattern
+  maxShifts : List ℕ → List ℕ → Case
   -- a find by an engine's steps: the pattern, the text, the positions and the comparisons
   find : Engine → List ℕ → List ℕ → List ℕ → ℕ → Case
   -- a letter, and what it folds to
@@ -75,11 +83,13 @@ comesTo o refusal number entries = eqb (o .resolution .refusal) refusal && eqb (
 
 -- a row holds: the definitions give its answer
 unfoldable pub holds : Case → Bool
-unfolding same tabulate lastIn kmpEntry shift given movesFrom occurrences runFrom positionsIn compared window bm.window folded readsAs readBook bookBytes comesTo outcome
+unfolding same tabulate lastIn gap widest widestAt kmpEntry maxShift shift given movesFrom occurrences runFrom positionsIn compared window bm.window improved.window folded readsAs readBook bookBytes comesTo outcome
 holds (kmpEntries P entries moves) = same (kmpTable P) entries && same (movesFrom 0 (kmpTable P)) moves
 holds (sundayEntries P letters entries others) = same (sundayTable P) (tabulate 256 (given letters entries others))
 holds (horspoolEntries P letters entries others) = same (horspoolTable P) (tabulate 256 (given letters entries others))
 holds (delta2Entries P entries) = same (delta2Table P) entries
+holds (gaps P entries width letter) = same (tabulate (length P) (gap P)) entries && eqb (md P) width && eqb (mdp P) letter
+holds (maxShifts P entries) = same (maxShiftTable P) entries
 holds (find e P T positions comparisons) = same (occurrences P T) positions && same (positionsIn (run (e .steps) P T)) positions && eqb (compared e P T) comparisons
 holds (fold letter small) = eqb (folded letter) small
 holds (book bytes cs) = readsAs (readBook bytes) cs && same (bookBytes cs) bytes
@@ -115,6 +125,10 @@ aaa = aa ++ wordA
 
 abbrev abaaca : List ℕ
 abaaca = aba ++ wordA ++ wordC ++ wordA
+
+-- three of its gaps are the widest
+abbrev abab : List ℕ
+abab = ab ++ ab
 
 -- the letters with entries of their own
 abbrev abc : List ℕ
@@ -156,6 +170,12 @@ cases =
     ∷ delta2Entries ABYXCDEYX (17 ∷ 16 ∷ 15 ∷ 14 ∷ 13 ∷ 12 ∷ 7 ∷ 10 ∷ 1 ∷ [])
     ∷ find boyerMoore aba (ab ++ aba) (0 ∷ 2 ∷ []) 6
     ∷ find boyerMoore ab wordA [] 0
+    ∷ gaps abaaca (1 ∷ 2 ∷ 2 ∷ 1 ∷ 5 ∷ 2 ∷ []) 5 5
+    ∷ gaps abab (1 ∷ 2 ∷ 2 ∷ 2 ∷ []) 2 4
+    ∷ maxShifts abaaca (5 ∷ 5 ∷ 5 ∷ 5 ∷ 5 ∷ 6 ∷ 5 ∷ [])
+    ∷ find improvedFjs abaaca (abab ++ abc ++ abab ++ wordB ++ wordB ++ wordC ++ wordA) [] 11
+    ∷ find improvedFjs aba (ab ++ aba) (0 ∷ 2 ∷ []) 6
+    ∷ find improvedFjs ab wordA [] 0
     ∷ fold 0xC9 0xE9
     ∷ fold 0xD7 0xD7
     ∷ fold 0xDF 0xDF

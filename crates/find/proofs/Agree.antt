@@ -26,9 +26,9 @@ engines-agree f g n k =
 pub accepted-found : {method : ℕ} {P T scratch list : List ℕ} {r : Finding} {scratch′ list′ : List ℕ} → Answered method P T scratch list r scratch′ list′ → r .refusal ≡ 0
     → Found (engineOf method) P T scratch list r scratch′ list′
 accepted-found {method} {P} {T} {scratch} {list} {r} {scratch′} {list′} a z =
-    by-test (λ _. Found (engineOf method) P T scratch list r scratch′ list′) (leb method 6)
-    (λ t. a .found (leb-true method 6 t))
-    (λ t. absurd (omega (arith, ap (λ (x : Finding). x .refusal) (a .refused (leb-false method 6 t) .0))))
+    by-test (λ _. Found (engineOf method) P T scratch list r scratch′ list′) (leb method 7)
+    (λ t. a .found (leb-true method 7 t))
+    (λ t. absurd (omega (arith, ap (λ (x : Finding). x .refusal) (a .refused (leb-false method 7 t) .0))))
 
 pub methods-agree : {method₁ method₂ : ℕ} {P T scratch₁ scratch₂ list : List ℕ} {r₁ r₂ : Finding} {scratch₁′ scratch₂′ list₁′ list₂′ : List ℕ} → Answered method₁ P T scratch₁ list r₁ scratch₁′ list₁′
     → Answered method₂ P T scratch₂ list r₂ scratch₂′ list₂′ → r₁ .refusal ≡ 0 → r₂ .refusal ≡ 0 → Same r₁ r₂ list₁′ list₂′

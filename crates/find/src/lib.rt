@@ -3,7 +3,7 @@
 use matching::Finding;
 ghost use Rattle.find.specs.Find.{Answered};
 
-// Finds the pattern in the text by the engine of a method number, 0 to 6; refusal 1 for any other.
+// Finds the pattern in the text by the engine of a method number, 0 to 7; refusal 1 for any other.
 pub fn find(
     method: u32,
     pattern: &[u8],
@@ -21,6 +21,7 @@ pub fn find(
         4 => fjs::find(pattern, text, scratch, list),
         5 => double_window::find(pattern, text, scratch, list),
         6 => boyer_moore::find(pattern, text, scratch, list),
+        7 => improved_fjs::find(pattern, text, scratch, list),
         _ => Finding {
             refusal: 1,
             total: 0,

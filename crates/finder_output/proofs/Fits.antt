@@ -1,11 +1,11 @@
--- All that is printed for an input fits the output of `outputSize` bytes: seven lines of at most 24,600 bytes each, or one refusal. Assumes nothing.
+-- All that is printed for an input fits the output of `outputSize` bytes: eight lines of at most 24,600 bytes each, or one refusal. Assumes nothing.
 use mathlib.Core.Path.{_≡_, ap}
 use Prim.Native.Nat.{ℕ, _*_, _≤_, _<_}
 use native.Mathlib.Omega.{arith}
 use native.Mathlib.Nat.{suc-mul}
 use mathlib.Core.Bool.{cond}
 use mathlib.Core.List.{List, [], _∷_}
-use lib.ListN.{length, getD, take, length-append, length-take}
+use lib.ListN.{length, getD, take, drop, length-append, length-take}
 use lib.Seq.{getD-take}
 use lib.Dec.{eqb, ltb}
 use borrow.Author.Tests.{eqb-true}
@@ -23,6 +23,7 @@ use Rattle.sunday.proofs.Sound as sunday
 use Rattle.fjs.proofs.Sound as fjs
 use Rattle.double_window.proofs.Sound as double
 use Rattle.boyer_moore.proofs.Sound as bm
+use Rattle.improved_fjs.proofs.Sound as improved
 use Rattle.pieces.specs.Pieces.{joined}
 use Rattle.pieces.proofs.Laid.{joined-append}
 use Rattle.finder_lines.specs.Lines.{fields, refusedLine}
@@ -75,10 +76,11 @@ all-fit : (P T : List ℕ) → Within (length P) (length T) 0 0 → length (join
 unfolding rows
 all-fit P T w =
     let some = w .some in
+    let later : Fit P T (drop 5 rows) = ((omega arith, bm.sound P T some), ((omega arith, double.sound P T some), ((omega arith, improved.sound P T some), tt))) in
     omega (
       arith,
       lines-fit P T (w .short) (w .small) rows
-          ((omega arith, naive.sound P T some), ((omega arith, kmp.sound P T some), ((omega arith, horspool.sound P T some), ((omega arith, sunday.sound P T some), ((omega arith, fjs.sound P T some), ((omega arith, bm.sound P T some), ((omega arith, double.sound P T some), tt))))))),
+          ((omega arith, naive.sound P T some), ((omega arith, kmp.sound P T some), ((omega arith, horspool.sound P T some), ((omega arith, sunday.sound P T some), ((omega arith, fjs.sound P T some), later))))),
     )
 
 answered-fits : (P T : List ℕ) → length (joined (answered P T)) ≤ outputSize

@@ -19,8 +19,8 @@ use Rattle.finder_lines.specs.Lines.{field, fields, lineOf, refusedLine}
 use Rattle.finder_lines.proofs.Fields.{fields-received}
 use Rattle.finder_output.specs.Printed.{Row, rows, rowAt, engineLine, engineLines, answered}
 
--- 1,281 scratch entries are enough for methods 0 to 6
-entries-enough : (method m : ℕ) → method ≤ 6 → m ≤ 1024 → engineOf method .entries m ≤ 1281
+-- 2,306 scratch entries are enough for methods 0 to 7
+entries-enough : (method m : ℕ) → method ≤ 7 → m ≤ 1024 → engineOf method .entries m ≤ 2306
 unfolding engineOf
 entries-enough zero m h k = omega arith
 entries-enough (suc zero) m h k = omega arith
@@ -29,11 +29,12 @@ entries-enough (suc (suc (suc zero))) m h k = omega arith
 entries-enough (suc (suc (suc (suc zero)))) m h k = omega arith
 entries-enough (suc (suc (suc (suc (suc zero))))) m h k = omega arith
 entries-enough (suc (suc (suc (suc (suc (suc zero)))))) m h k = omega arith
-entries-enough (suc (suc (suc (suc (suc (suc (suc method))))))) m h k = absurd (omega arith)
+entries-enough (suc (suc (suc (suc (suc (suc (suc zero))))))) m h k = omega arith
+entries-enough (suc (suc (suc (suc (suc (suc (suc (suc method)))))))) m h k = absurd (omega arith)
 
 -- the line of what a find gave and left is the engine's
-pub found-line : {method : ℕ} {P T scratch list : List ℕ} {r : Finding} {scratch′ list′ : List ℕ} (name : List ℕ) → Answered method P T scratch list r scratch′ list′ → method ≤ 6
-    → length scratch ≡ 1281 → length list ≡ 4096 → refusal (length P) (length T) 0 0 ≡ 0
+pub found-line : {method : ℕ} {P T scratch list : List ℕ} {r : Finding} {scratch′ list′ : List ℕ} (name : List ℕ) → Answered method P T scratch list r scratch′ list′ → method ≤ 7
+    → length scratch ≡ 2306 → length list ≡ 4096 → refusal (length P) (length T) 0 0 ≡ 0
     → lineOf name (r .total) (r .comparisons) list′ ≡ engineLine (record { name = name; engine = engineOf method }) P T
 unfolding engineLine lineOf
 found-line {method} {P} {T} {scratch} {list} {r} {scratch′} {list′} name a low long places none =

@@ -14,6 +14,7 @@ use Rattle.sunday.specs.Sunday.{sunday}
 use Rattle.fjs.specs.Fjs.{fjs}
 use Rattle.double_window.specs.DoubleWindow.{doubleWindow}
 use Rattle.boyer_moore.specs.BoyerMoore.{boyerMoore}
+use Rattle.improved_fjs.specs.ImprovedFjs.{improvedFjs}
 use Rattle.pieces.specs.Pieces.{joined}
 use Rattle.finder_lines.specs.Lines.{lineOf, refusedLine}
 
@@ -32,8 +33,8 @@ pub record Row : Type 0 where
   pub name : List ℕ
   pub engine : Engine
 
--- the engines in the order of their lines, `bm` after `fjs` (document 02, (ii)) and `double` last (document 02, (v)); the names are `naive`, `kmp`, `horspool`, `sunday`, `fjs`, `bm`
--- and `double` in ASCII
+-- the engines in the order of their lines: after `fjs` come `bm`, `double` and, last, `improved` (document 02, (ii), (v) and (x)); the names are `naive`, `kmp`, `horspool`, `sunday`,
+-- `fjs`, `bm`, `double` and `improved` in ASCII
 unfoldable pub rows : List Row
 rows =
     record { name = 110 ∷ 97 ∷ 105 ∷ 118 ∷ 101 ∷ []; engine = naive }
@@ -43,6 +44,7 @@ rows =
     ∷ record { name = 102 ∷ 106 ∷ 115 ∷ []; engine = fjs }
     ∷ record { name = 98 ∷ 109 ∷ []; engine = boyerMoore }
     ∷ record { name = 100 ∷ 111 ∷ 117 ∷ 98 ∷ 108 ∷ 101 ∷ []; engine = doubleWindow }
+    ∷ record { name = 105 ∷ 109 ∷ 112 ∷ 114 ∷ 111 ∷ 118 ∷ 101 ∷ 100 ∷ []; engine = improvedFjs }
     ∷ []
 
 -- the row of that number, the first being 0

@@ -24,7 +24,7 @@ fn phrase_end(input: &[u8]) -> usize
     i
 }
 
-// Puts the line of one engine from `at` on: where the next line goes. The caller has met no refusal, and 1,281 scratch entries are enough for methods 0 to 6.
+// Puts the line of one engine from `at` on: where the next line goes. The caller has met no refusal, and 2,306 scratch entries are enough for methods 0 to 7.
 fn put_engine(
     method: u32,
     name: &[u8],
@@ -33,11 +33,11 @@ fn put_engine(
     output: &mut [u8],
     at: usize,
 ) -> usize
-    requires { ⌜ method ≤ 6 ⌝ }
+    requires { ⌜ method ≤ 7 ⌝ }
     requires { ⌜ refusal (length (now phrase)) (length (now text)) 0 0 ≡ 0 ⌝ }
     ensures { λ r. ⌜ Laid (now (output .exit)) r (putAll (now (output .entry)) at (engineLine (record { name = now (name .entry); engine = engineOf method }) (now (phrase .entry)) (now (text .entry)))) ⌝ }
 {
-    let mut scratch = [0; 1281];
+    let mut scratch = [0; 2306];
     let mut list = [0; 4096];
     let r = find::find(method, phrase, text, &mut scratch, &mut list);
     finder_lines::put_line(output, at, name, r.total, r.comparisons, &list)
@@ -56,7 +56,8 @@ fn put_row(row: u32, phrase: &[u8], text: &[u8], output: &mut [u8], at: usize) -
         3 => put_engine(3, b"sunday", phrase, text, output, at),
         4 => put_engine(4, b"fjs", phrase, text, output, at),
         5 => put_engine(6, b"bm", phrase, text, output, at),
-        _ => put_engine(5, b"double", phrase, text, output, at),
+        6 => put_engine(5, b"double", phrase, text, output, at),
+        _ => put_engine(7, b"improved", phrase, text, output, at),
     }
 }
 
@@ -67,7 +68,7 @@ fn put_rows(phrase: &[u8], text: &[u8], output: &mut [u8]) -> usize
 {
     let mut at = 0;
     let mut row = 0;
-    while row < 7 {
+    while row < 8 {
         at = put_row(row, phrase, text, output, at);
         row += 1;
     }

@@ -104,6 +104,27 @@ fn delta2_table(pattern: &[u8], room: usize, lent: usize) {
     }
 }
 
+// The widest gap of a pattern and its position; and the KMP entries and MAX_Shift, all entries of the table that they were lent.
+fn max_shift_in(pattern: &[u8], table: &mut [u16]) {
+    let widest = border_tables::max_shift_table(pattern, table);
+    io::write_all(1, b"widest gap ");
+    io::write_all(1, pattern);
+    number(widest.width as u64);
+    number(widest.letter as u64);
+    io::write_all(1, b"\n");
+    io::write_all(1, b"max shift table ");
+    io::write_all(1, pattern);
+    entries(table, 0, table.len());
+}
+
+// The same in so many entries.
+fn max_shift_table(pattern: &[u8], room: usize) {
+    let mut table = [9; 24];
+    if room <= 24 {
+        max_shift_in(pattern, &mut table[..room]);
+    }
+}
+
 fn tables() {
     kmp_table(b"a", 3);
     kmp_table(b"aaaa", 6);
@@ -158,6 +179,27 @@ fn delta2_in_little() {
     delta2_table(b"", 0, 0);
 }
 
+// Source document 001's pattern first; then one gap, equal gaps, no letter twice, and md above KMP_Shift at and below j - 1.
+fn max_shift_tables() {
+    max_shift_table(b"abaaca", 15);
+    max_shift_table(b"a", 5);
+    max_shift_table(b"aaaa", 11);
+    max_shift_table(b"abab", 11);
+    max_shift_table(b"abcd", 11);
+    max_shift_table(b"abaab", 13);
+    max_shift_table(b"abababbbba", 23);
+    max_shift_table(b"", 3);
+}
+
+// Just enough, one entry too few, and room for the KMP entries alone.
+fn max_shift_in_little() {
+    max_shift_table(b"abca", 10);
+    max_shift_table(b"abca", 9);
+    max_shift_table(b"abca", 5);
+    max_shift_table(b"", 2);
+    max_shift_table(b"", 1);
+}
+
 // The engine of a method number by its name.
 fn name(method: u32) {
     match method {
@@ -168,6 +210,7 @@ fn name(method: u32) {
         4 => io::write_all(1, b"fjs"),
         5 => io::write_all(1, b"double"),
         6 => io::write_all(1, b"bm"),
+        7 => io::write_all(1, b"improved"),
         _ => io::write_all(1, b"unknown"),
     }
     ;
@@ -185,9 +228,9 @@ fn places(list: &[u32]) {
 
 // A find with a scratch of so many entries: the refusal, the total, the comparisons, and a list of four.
 fn found(method: u32, pattern: &[u8], text: &[u8], room: usize) {
-    let mut scratch = [9; 1281];
+    let mut scratch = [9; 2306];
     let mut list = [9; 4];
-    if room <= 1281 {
+    if room <= 2306 {
         let r = find::find(method, pattern, text, &mut scratch[..room], &mut list);
         number(r.refusal as u64);
         number(r.total as u64);
@@ -216,7 +259,7 @@ fn limit(method: u32, m: usize, n: usize) {
             name(method);
             number(m as u64);
             number(n as u64);
-            found(method, &pattern[..m], &text[..n], 1281);
+            found(method, &pattern[..m], &text[..n], 2306);
         }
     }
 }
@@ -253,6 +296,20 @@ fn boyer_moore() {
     case(6, b"aabaa", b"aabaabaa", 1281);
     case(6, b"aaaa", b"aaaaaa", 1281);
     case(6, b"AT-THAT", b"WHICH-FINALLY-HALTS.--AT-THAT-POINT", 1281);
+}
+
+// Request (x) of document 02: figure 2 of source document 001; a move by md, by KMP's shift and by either after an occurrence; carried windows, whose move is KMP's; and no letter follows.
+fn improved() {
+    case(7, b"abaaca", b"abababcababbbca", 1281);
+    case(7, b"abca", b"bbbabca", 1281);
+    case(7, b"abaaca", b"abaacbabaaca", 1281);
+    case(7, b"abc", b"abcabc", 1281);
+    case(7, b"abca", b"abcabca", 1281);
+    case(7, b"aba", b"abaaba", 1281);
+    case(7, b"abaaca", b"abaacababaaca", 1281);
+    case(7, b"abaa", b"abba", 1281);
+    case(7, b"abaaca", b"abaaaa", 1281);
+    case(7, b"a", b"cabcca", 1281);
 }
 
 // Request (i) of document 02: the line and the column of each place of a text, that of its end included.
@@ -317,6 +374,8 @@ fn main() {
     delta1_tables();
     delta2_tables();
     delta2_in_little();
+    max_shift_tables();
+    max_shift_in_little();
     engine(0, 0);
     engine(1, 4);
     engine(2, 256);
@@ -324,9 +383,11 @@ fn main() {
     engine(4, 260);
     engine(5, 256);
     engine(6, 259);
-    case(7, b"aba", b"ababa", 1281);
+    engine(7, 264);
+    case(8, b"aba", b"ababa", 1281);
     kmp_bound();
     boyer_moore();
+    improved();
     endings();
     places_told();
 }

@@ -1,4 +1,4 @@
-//! Finding by the seven engines.
+//! Finding by the eight engines.
 
 use crate::{ffi, Refusal, PHRASE_MAX, TEXT_MAX};
 use std::fmt;
@@ -21,12 +21,14 @@ pub enum Method {
     DoubleWindow = 5,
     /// Boyer and Moore: right to left, moving by the larger of two values, one of the text letter that differs, one of the letters that are equal.
     BoyerMoore = 6,
+    /// FJS as improved in 2019: the letter with the widest gap before it is tried first, and moves the phrase on by that gap where it may.
+    ImprovedFjs = 7,
 }
 
 impl Method {
     /// All engines, in the order of their numbers.
-    pub const ALL: [Method; 7] =
-        [Method::Naive, Method::Kmp, Method::Horspool, Method::Sunday, Method::Fjs, Method::DoubleWindow, Method::BoyerMoore];
+    pub const ALL: [Method; 8] =
+        [Method::Naive, Method::Kmp, Method::Horspool, Method::Sunday, Method::Fjs, Method::DoubleWindow, Method::BoyerMoore, Method::ImprovedFjs];
 
     /// The method number.
     ///
@@ -44,6 +46,7 @@ impl Method {
     /// assert_eq!(Method::Fjs.scratch_entries(3), 260);
     /// assert_eq!(Method::DoubleWindow.scratch_entries(3), 256);
     /// assert_eq!(Method::BoyerMoore.scratch_entries(3), 259);
+    /// assert_eq!(Method::ImprovedFjs.scratch_entries(3), 264);
     /// ```
     pub const fn scratch_entries(self, m: usize) -> usize {
         match self {
@@ -52,6 +55,7 @@ impl Method {
             Method::Horspool | Method::Sunday | Method::DoubleWindow => 256,
             Method::Fjs => m.saturating_add(257),
             Method::BoyerMoore => m.saturating_add(256),
+            Method::ImprovedFjs => m.saturating_mul(2).saturating_add(258),
         }
     }
 
@@ -65,6 +69,7 @@ impl Method {
             Method::Fjs => "fjs",
             Method::DoubleWindow => "double",
             Method::BoyerMoore => "bm",
+            Method::ImprovedFjs => "improved",
         }
     }
 }
@@ -111,7 +116,7 @@ pub fn find(method: Method, phrase: &[u8], text: &[u8], scratch: &mut [u16], lis
 /// [`find`] with a method number, which need not be that of an engine, and with the refusal's number in place of a [`Refusal`].
 ///
 /// ```
-/// let raw = libretto::find_raw(7, b"aba", b"ababa", &mut [], &mut []);
+/// let raw = libretto::find_raw(8, b"aba", b"ababa", &mut [], &mut []);
 /// assert_eq!((raw.refusal, raw.total, raw.comparisons), (1, 0, 0));
 /// ```
 pub fn find_raw(method: u32, phrase: &[u8], text: &[u8], scratch: &mut [u16], list: &mut [u32]) -> RawFinding {
@@ -184,11 +189,12 @@ mod tests {
         assert_eq!(find(Method::Kmp, b"abc", b"abc", &mut [0; 3], &mut []), Err(Refusal::ShortScratch));
         assert_eq!(find(Method::DoubleWindow, b"abc", b"abc", &mut [0; 255], &mut []), Err(Refusal::ShortScratch));
         assert_eq!(find(Method::BoyerMoore, b"abc", b"abc", &mut [0; 258], &mut []), Err(Refusal::ShortScratch));
+        assert_eq!(find(Method::ImprovedFjs, b"abc", b"abc", &mut [0; 263], &mut []), Err(Refusal::ShortScratch));
     }
 
     #[test]
     fn numbers_and_names() {
         let names: Vec<String> = Method::ALL.iter().map(|m| format!("{}{m}", m.number())).collect();
-        assert_eq!(names, ["0naive", "1kmp", "2horspool", "3sunday", "4fjs", "5double", "6bm"]);
+        assert_eq!(names, ["0naive", "1kmp", "2horspool", "3sunday", "4fjs", "5double", "6bm", "7improved"]);
     }
 }

@@ -1,4 +1,4 @@
-//! Exact matching over bytes by seven engines, cue books, and the places of their cues: a safe Rust interface to the library `libretto`.
+//! Exact matching over bytes by eight engines, cue books, and the places of their cues: a safe Rust interface to the library `libretto`.
 //!
 //! All engines give the same list of places; each gives the count of its own letter comparisons. The library allocates nothing: the caller lends a
 //! scratch of 16-bit numbers for the tables and a list of 32-bit numbers for the places. [`find_all`] lends both itself. The engines compare letters

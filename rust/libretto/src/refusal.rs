@@ -8,7 +8,7 @@ use std::fmt;
 #[derive(Clone, Copy, Debug, PartialEq, Eq, Hash)]
 #[repr(u32)]
 pub enum Refusal {
-    /// The method number is above 6. No call with a [`Method`](crate::Method) meets this.
+    /// The method number is above 7. No call with a [`Method`](crate::Method) meets this.
     UnknownMethod = 1,
     /// The phrase has 0 bytes.
     NoPhrase = 2,
@@ -80,7 +80,7 @@ impl Refusal {
 impl fmt::Display for Refusal {
     fn fmt(&self, f: &mut fmt::Formatter<'_>) -> fmt::Result {
         f.pad(match self {
-            Refusal::UnknownMethod => "the method number is above 6",
+            Refusal::UnknownMethod => "the method number is above 7",
             Refusal::NoPhrase => "the phrase has 0 bytes",
             Refusal::LongPhrase => "the phrase has more than 1,024 bytes",
             Refusal::LongText => "the text has more than 32,768 bytes",

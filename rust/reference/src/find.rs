@@ -1,12 +1,12 @@
-//! Document 01, "What a find call takes and leaves" and "What a refused call hands back", rows 1 to 5; method 6 by document 02, (ii), and the
-//! scratch of method 5 by (v).
+//! Document 01, "What a find call takes and leaves" and "What a refused call hands back", rows 1 to 5; methods 6 and 7 by document 02, (ii) and (x),
+//! and the scratch of method 5 by (v).
 
-use crate::{boyer_moore, double_window, fjs, horspool, kmp, naive, sunday};
+use crate::{boyer_moore, double_window, fjs, horspool, improved_fjs, kmp, naive, sunday};
 
 /// Refusal number, total, comparisons; and what scratch and list hold afterwards.
 pub fn find(method: u32, phrase: &[u8], text: &[u8], scratch: &mut [u16], list: &mut [u32]) -> (u32, u32, u32) {
     // The refusals, in rising number; nothing is written.
-    if method > 6 {
+    if method > 7 {
         return (1, 0, 0);
     }
     if phrase.is_empty() {
@@ -24,7 +24,8 @@ pub fn find(method: u32, phrase: &[u8], text: &[u8], scratch: &mut [u16], list: 
         2 | 3 => 256,
         4 => 256 + phrase.len() + 1,
         5 => 256,
-        _ => 256 + phrase.len(),
+        6 => 256 + phrase.len(),
+        _ => 256 + 2 * (phrase.len() + 1),
     };
     if scratch.len() < needed {
         return (5, 0, 0);
@@ -38,7 +39,8 @@ pub fn find(method: u32, phrase: &[u8], text: &[u8], scratch: &mut [u16], list: 
         3 => sunday::table(phrase),
         4 => [sunday::table(phrase), kmp::table(phrase)].concat(),
         5 => horspool::table(phrase),
-        _ => [boyer_moore::delta1(phrase), boyer_moore::delta2(phrase)].concat(),
+        6 => [boyer_moore::delta1(phrase), boyer_moore::delta2(phrase)].concat(),
+        _ => [sunday::table(phrase), kmp::table(phrase), improved_fjs::max_shift(phrase)].concat(),
     };
     assert_eq!(tables.len(), needed);
     scratch[..needed].copy_from_slice(&tables);
@@ -55,7 +57,11 @@ pub fn find(method: u32, phrase: &[u8], text: &[u8], scratch: &mut [u16], list: 
         3 => sunday::run(phrase, text, &tables),
         4 => fjs::run(phrase, text, &tables[..256], &tables[256..]),
         5 => double_window::run(phrase, text, &tables),
-        _ => boyer_moore::run(phrase, text, &tables[..256], &tables[256..]),
+        6 => boyer_moore::run(phrase, text, &tables[..256], &tables[256..]),
+        _ => {
+            let (kmp, max_shift) = tables[256..].split_at(phrase.len() + 1);
+            improved_fjs::run(phrase, text, &tables[..256], kmp, max_shift)
+        }
     };
 
     // The list receives the first places up to its length; entries past those written keep their values; the total is full.

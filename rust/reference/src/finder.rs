@@ -1,4 +1,4 @@
-//! Document 01, "The finder program"; its `bm` line by document 02, (ii), and its last line by (v).
+//! Document 01, "The finder program"; its `bm` line by document 02, (ii), its `double` line by (v), and its last line by (x).
 
 use crate::find;
 
@@ -15,9 +15,10 @@ pub fn finder_output(input: &[u8]) -> Vec<u8> {
     };
     // Lines: engine, total, comparisons, and the places in the list.
     let mut output = String::new();
-    for (method, engine) in [(0, "naive"), (1, "kmp"), (2, "horspool"), (3, "sunday"), (4, "fjs"), (6, "bm"), (5, "double")] {
-        // Enough for the longest tables, which are those of FJS.
-        let mut scratch = vec![0; 256 + 1024 + 1];
+    let engines = [(0, "naive"), (1, "kmp"), (2, "horspool"), (3, "sunday"), (4, "fjs"), (6, "bm"), (5, "double"), (7, "improved")];
+    for (method, engine) in engines {
+        // Enough for the longest tables, which are those of the improved engine.
+        let mut scratch = vec![0; 256 + 2 * (1024 + 1)];
         let mut list = vec![0; 4096];
         let (refusal, total, comparisons) = find(method, phrase, text, &mut scratch, &mut list);
         // A refusal prints `refused` and its number, as one line only.

@@ -2,9 +2,10 @@
 //! independent of the library that it is compared with.
 //!
 //! [`find`] is the find call; [`finder_output`] is what the finder program prints. Each engine has a file of its own, with its table's rule and its
-//! steps. Tables are made by brute force from their rules; [`kmp_table`] and its like make one by itself. [`read_book`], [`title`] and [`write_cue`]
-//! are the calls of the cue book; [`cues`], [`read_cue`] and [`read_field`] are what they are made of. [`resolve`] is the resolver, which searches by
-//! brute force and shares nothing with the engines; [`endings`] and [`line_and_column`] are its line rule.
+//! steps. Tables are made by brute force from their rules; [`kmp_table`] and its like make one by itself, and [`widest_gap`] is what the improved
+//! engine's table needs beside the KMP entries. [`read_book`], [`title`] and [`write_cue`] are the calls of the cue book; [`cues`], [`read_cue`] and
+//! [`read_field`] are what they are made of. [`resolve`] is the resolver, which searches by brute force and shares nothing with the engines;
+//! [`endings`] and [`line_and_column`] are its line rule.
 
 #![forbid(unsafe_code)]
 
@@ -16,6 +17,7 @@ mod finder;
 mod fjs;
 mod fold;
 mod horspool;
+mod improved_fjs;
 mod kmp;
 mod naive;
 mod resolver;
@@ -30,7 +32,7 @@ pub use find::find;
 pub use finder::finder_output;
 pub use fold::{fold, fold_text};
 pub use resolver::{endings, line_and_column, resolve};
-pub use tables::{delta1_table, delta2_table, horspool_table, kmp_table, sunday_table};
+pub use tables::{delta1_table, delta2_table, horspool_table, kmp_table, max_shift_table, sunday_table, widest_gap};
 
 /// What an engine gives: the places, rising, counted from 0, and the number of looks at a pair P[j], T[i].
 #[derive(Default)]

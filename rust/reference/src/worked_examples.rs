@@ -1,12 +1,13 @@
-//! The worked examples of document 01, "The finder program" and "Refrains to try", and of document 02, (ii) and (v), and the tests that books, cues
-//! and lent memory meet.
+//! The worked examples of document 01, "The finder program" and "Refrains to try", and of document 02, (ii), (v) and (x), and the tests that books,
+//! cues and lent memory meet.
 
-use crate::{boyer_moore, double_window, endings, find, finder_output, fjs, fold, fold_text, horspool, kmp, line_and_column, resolve, sunday};
+use crate::{boyer_moore, double_window, fjs, horspool, improved_fjs, kmp, sunday};
 use crate::{cues, read_book, read_cue, read_due, read_field, title, write_cue, Cue, Field};
+use crate::{endings, find, finder_output, fold, fold_text, line_and_column, max_shift_table, resolve, widest_gap};
 
 /// Total, comparisons and places by a method, with memory enough.
 fn found(method: u32, phrase: &[u8], text: &[u8]) -> (u32, u32, Vec<u32>) {
-    let mut scratch = vec![7; 1281];
+    let mut scratch = vec![7; 2306];
     let mut list = vec![7; text.len()];
     let (refusal, total, comparisons) = find(method, phrase, text, &mut scratch, &mut list);
     assert_eq!(refusal, 0);
@@ -16,11 +17,15 @@ fn found(method: u32, phrase: &[u8], text: &[u8]) -> (u32, u32, Vec<u32>) {
 
 #[test]
 fn finder_lines() {
-    let lines = "naive 2 7 0 2\nkmp 2 5 0 2\nhorspool 2 6 0 2\nsunday 2 6 0 2\nfjs 2 5 0 2\nbm 2 6 0 2\ndouble 2 4 0 2\n";
+    let lines = "naive 2 7 0 2\nkmp 2 5 0 2\nhorspool 2 6 0 2\nsunday 2 6 0 2\nfjs 2 5 0 2\nbm 2 6 0 2\ndouble 2 4 0 2\nimproved 2 6 0 2\n";
     assert_eq!(finder_output(b"aba\nababa"), lines.as_bytes());
     assert_eq!(finder_output(b""), b"refused 2\n");
     assert_eq!(finder_output(b"\n"), b"refused 2\n");
-    assert_eq!(finder_output(b"ab"), b"naive 0 0\nkmp 0 0\nhorspool 0 0\nsunday 0 0\nfjs 0 0\nbm 0 0\ndouble 0 0\n");
+    assert_eq!(finder_output(b"ab"), b"naive 0 0\nkmp 0 0\nhorspool 0 0\nsunday 0 0\nfjs 0 0\nbm 0 0\ndouble 0 0\nimproved 0 0\n");
+    // The longest phrase, as the whole text: each letter is looked at once, the last not at all by `double`, and twice by `improved`.
+    let each_once = ["naive", "kmp", "horspool", "sunday", "fjs", "bm"].map(|engine| format!("{engine} 1 1024 0\n")).concat();
+    let lines = each_once + "double 1 1023 0\nimproved 1 1025 0\n";
+    assert_eq!(finder_output(&[&[b'a'; 1024][..], b"\n", &[b'a'; 1024]].concat()), lines.as_bytes());
     assert_eq!(finder_output(&[b'a'; 1025]), b"refused 3\n");
     assert_eq!(finder_output(&[b'a'; 33_793]), b"refused 3\n");
     assert_eq!(finder_output(&[b'a'; 33_794]), b"refused 4\n");
@@ -188,9 +193,15 @@ fn boyer_moore_scratch() {
     }
 }
 
+/// All words over these letters of this length.
+fn words_over(letters: &[u8], length: usize) -> Vec<Vec<u8>> {
+    let longer = |shorter: Vec<Vec<u8>>| shorter.iter().flat_map(|word| letters.iter().map(|&letter| [word, &[letter][..]].concat())).collect();
+    (0..length).fold(vec![vec![]], |words, _| longer(words))
+}
+
 /// All words over a and b of this length.
 fn words(length: usize) -> Vec<Vec<u8>> {
-    (0..1usize << length).map(|bits| (0..length).map(|k| b"ab"[bits >> k & 1]).collect()).collect()
+    words_over(b"ab", length)
 }
 
 #[test]
@@ -201,6 +212,233 @@ fn boyer_moore_gives_the_naive_places() {
             let ((total, _, places), (naive_total, _, naive_places)) = (found(6, &phrase, text), found(0, &phrase, text));
             assert_eq!((total, places), (naive_total, naive_places), "{phrase:?} in {text:?}");
         }
+    }
+}
+
+/// Example 2 of source document 001.
+#[test]
+fn improved_tables_of_abaaca() {
+    assert_eq!(improved_fjs::gaps(b"abaaca"), [1, 2, 2, 1, 5, 2]);
+    assert_eq!(widest_gap(b"abaaca"), (5, 5));
+    let kmp_shift: Vec<u16> = kmp::table(b"abaaca").iter().enumerate().map(|(k, b)| k as u16 + 1 - b).collect();
+    assert_eq!(kmp_shift, [1, 1, 3, 2, 3, 6, 5]);
+    assert_eq!(improved_fjs::max_shift(b"abaaca"), [5, 5, 5, 5, 5, 6, 5]);
+}
+
+/// md and mdp by the loop of Algorithm 4 as it is printed.
+fn algorithm_4(phrase: &[u8]) -> (usize, usize) {
+    let (mut md, mut mdp) = (0, 1);
+    let mut prevpos = [0; 256];
+    for j in 1..=phrase.len() {
+        let c = phrase[j - 1] as usize;
+        if md <= j - prevpos[c] {
+            md = j - prevpos[c];
+            mdp = j;
+        }
+        prevpos[c] = j;
+    }
+    (md, mdp)
+}
+
+#[test]
+fn widest_gaps() {
+    // Of equal gaps the one of the largest index: of letters 2 and 3, of letters 2 to 4, of letters 3 and 4.
+    assert_eq!((improved_fjs::gaps(b"abaa"), widest_gap(b"abaa")), (vec![1, 2, 2, 1], (2, 3)));
+    assert_eq!((improved_fjs::gaps(b"abab"), widest_gap(b"abab")), (vec![1, 2, 2, 2], (2, 4)));
+    assert_eq!((improved_fjs::gaps(b"abca"), widest_gap(b"abca")), (vec![1, 2, 3, 3], (3, 4)));
+    assert_eq!((widest_gap(b""), widest_gap(b"a")), ((0, 0), (1, 1)));
+    for phrase in (1..=8).flat_map(|length| words_over(b"abc", length)).chain((1..=6).flat_map(|length| words_over(b"abcd", length))) {
+        assert_eq!(widest_gap(&phrase), algorithm_4(&phrase), "{phrase:?}");
+    }
+}
+
+/// md against j − 1, where md is larger than KMP_Shift[j].
+#[test]
+fn max_shift_where_j_decides() {
+    // KMP entries 0 1 0 2 1 3, so KMP_Shift is 1 1 3 2 4 3. At 4, md is 3, and so is j − 1: md stands there.
+    assert_eq!((improved_fjs::gaps(b"abaab"), widest_gap(b"abaab")), (vec![1, 2, 2, 1, 3], (3, 5)));
+    assert_eq!(improved_fjs::max_shift(b"abaab"), [3, 3, 3, 3, 4, 3]);
+    // Letter 5 is equal, then letters 1 to 3; letter 4 is not. The move is 3 with nothing carried, where KMP's would be 2 with a carried. Then letter 5
+    // is equal and letter 1 is not.
+    assert_eq!(attempts(b"abaab", b"ababbccb"), [(1, 1 + 4), (4, 1 + 1)]);
+    // KMP entries 0 1 0 1 0 1 5 1 1 0 2, so KMP_Shift is 1 1 3 3 5 5 2 7 8 10 9. At 7, md is 5 and j − 1 is 6: KMP_Shift stands there.
+    assert_eq!((improved_fjs::gaps(b"abababbbba"), widest_gap(b"abababbbba")), (vec![1, 2, 2, 2, 2, 2, 1, 1, 1, 5], (5, 10)));
+    assert_eq!(improved_fjs::max_shift(b"abababbbba"), [5, 5, 5, 5, 5, 5, 2, 7, 8, 10, 9]);
+    // Letter 10 is equal, then letters 1 to 6; letter 7 is not. The move is 2, with abab carried; letter 5 is equal and letter 6 is not.
+    assert_eq!(attempts(b"abababbbba", b"abababaccacc"), [(1, 1 + 7), (3, 2)]);
+}
+
+#[test]
+fn improved_tables_of_long_phrases() {
+    // Each a but the first has an a just before it. KMP_Shift is 1 to 1024 and then 1.
+    let phrase = [b'a'; 1024];
+    let kmp_shift: Vec<u16> = (1..=1024).chain([1]).collect();
+    assert_eq!((widest_gap(&phrase), improved_fjs::max_shift(&phrase)), ((1, 1024), kmp_shift));
+    // The b at the end has no other before it, so md is m and no KMP_Shift passes it.
+    let phrase = [vec![b'a'; 1023], vec![b'b']].concat();
+    assert_eq!((widest_gap(&phrase), improved_fjs::max_shift(&phrase)), ((1024, 1024), vec![1024; 1025]));
+    // All 256 letters, four times: from letter 256 on each gap is 256. A border of the first j − 1 letters that is not empty is followed by P[j]
+    // again, and the empty one by P[1]. So b[j] is 0 where P[j] is P[1], and else 1. The whole phrase moves by 256.
+    let phrase: Vec<u8> = (0..=255u8).cycle().take(1024).collect();
+    let kmp_shift = |j: u16| if j % 256 == 1 { j } else { j - 1 };
+    let entries: Vec<u16> = (1..=1024).map(|j| kmp_shift(j).max(256)).chain([256]).collect();
+    assert_eq!((widest_gap(&phrase), improved_fjs::max_shift(&phrase)), ((256, 1024), entries));
+}
+
+/// The KMP entries 0 1 0 2 of aba and then its MAX_Shift: md is 2 and KMP_Shift 1 1 3 2, so that md stands at 1 and 2. It does not at 3, where
+/// KMP_Shift is larger, nor at 4, where j − 1 is.
+const KMP_AND_MAX_SHIFT_OF_ABA: [u16; 8] = [0, 1, 0, 2, 2, 2, 3, 2];
+
+#[test]
+fn lent_table_of_kmp_and_max_shift() {
+    let made = |phrase: &[u8], length: usize| {
+        let mut table = vec![7; length];
+        max_shift_table(phrase, &mut table);
+        table
+    };
+    assert_eq!((made(b"aba", 0), made(b"aba", 4), made(b"aba", 7)), (vec![], vec![7; 4], vec![7; 7]));
+    assert_eq!(made(b"aba", 8), KMP_AND_MAX_SHIFT_OF_ABA);
+    assert_eq!(made(b"aba", 10), [&KMP_AND_MAX_SHIFT_OF_ABA[..], &[7, 7]].concat());
+    assert_eq!((made(b"", 1), made(b"", 3)), (vec![7], vec![0, 1, 7]));
+    // The longest phrase; the largest entry is 65,535.
+    let entries = vec![0; 65_535].into_iter().chain([65_535]).chain(1..=65_535).chain([1]);
+    assert_eq!(made(&[b'a'; 65_535], 2 * 65_536), entries.collect::<Vec<u16>>());
+    assert_eq!(made(&[b'a'; 65_535], 2 * 65_536 - 1), vec![7; 2 * 65_536 - 1]);
+    assert_eq!(made(&[b'a'; 65_536], 140_000), vec![7; 140_000]);
+}
+
+/// The windows of method 7, each by its first letter, counted from 1, and the looks at it. What is done at a window does not depend on later letters
+/// of the text, and each window costs a look. So a text that ends where the window ends costs the window's looks more than a text that is a letter
+/// shorter.
+fn attempts(phrase: &[u8], text: &[u8]) -> Vec<(usize, u32)> {
+    let looks = |n: usize| found(7, phrase, &text[..n]).1;
+    let added = (phrase.len()..=text.len()).map(|n| (n - phrase.len() + 1, looks(n) - looks(n - 1)));
+    added.filter(|&(_, looks)| looks > 0).collect()
+}
+
+/// The text is the row of letters in Figure 2; its caption and Example 2 have one b less, which does not fit the attempts in words. The starts are
+/// those of the attempts in words, by the letters of T that they name; the figure's rows as they reach us have lost columns.
+#[test]
+fn figure_2_of_document_001() {
+    let (phrase, text) = (b"abaaca", b"abababcababbbca");
+    // Attempt 1: P[5] and T[5] are unequal; the move is Sunday's by T[7], which is 2.
+    // Attempt 2: P[5] and T[7] are equal, then letters 1 to 3; letter 4 is not. The move is MAX_Shift[4], which is 5, and j becomes −1.
+    // Attempt 3: P[5] and T[12] are unequal; the move is Sunday's by T[14], which is 2.
+    // Attempt 4: P[5] and T[14] are equal, then letters 1 and 2; letter 3 is not. The move by 5 passes the end.
+    assert_eq!(attempts(phrase, text), [(1, 1), (3, 1 + 4), (8, 1), (10, 1 + 3)]);
+    assert_eq!(found(7, phrase, text), (0, 11, vec![]));
+}
+
+/// Window 1 to 3: P[3] is equal (1), then letters 1 to 3, P[3] once more (4): place 0. Here j is 4, MAX_Shift[4] is 2, and j becomes 2, with a
+/// carried. Window 3 to 5: letters 2 and 3 (6): place 2. Here j is 4 again and becomes b[4], which is 2; the window 5 to 7 passes the end.
+#[test]
+fn improved_line_of_the_finder() {
+    assert_eq!(attempts(b"aba", b"ababa"), [(1, 4), (3, 2)]);
+    assert_eq!(found(7, b"aba", b"ababa"), (2, 6, vec![0, 2]));
+}
+
+/// abaa has equal gaps at letters 2 and 3; letter 3 is looked at first.
+#[test]
+fn improved_with_equal_gaps() {
+    // Letter 3 is unequal at once. By letter 2, which is equal, letters 1 to 3 would have followed.
+    assert_eq!(found(7, b"abaa", b"abba"), (0, 1, vec![]));
+    // Letter 3 is equal, then letters 1 to 3; letter 4 is not.
+    assert_eq!(found(7, b"abaa", b"abab"), (0, 1 + 4, vec![]));
+    // Letter 3 is equal, letter 1 is not; the move is md, which is 2. Then an occurrence, which costs 1 look and one at each letter.
+    assert_eq!(attempts(b"abaa", b"bbabaa"), [(1, 1 + 1), (3, 1 + 4)]);
+}
+
+#[test]
+fn improved_moves_after_letter_mdp_is_equal() {
+    // Letter 5, and letters 1 to 5, are equal, letter 6 is not. The move is KMP_Shift[6], which is 6 and larger than md.
+    assert_eq!(attempts(b"abaaca", b"abaacbabaaca"), [(1, 1 + 6), (7, 1 + 6)]);
+    // Letter 4 is equal, and letter 1 is not: md is 3, and j becomes −2.
+    assert_eq!(attempts(b"abca", b"bbbabca"), [(1, 1 + 1), (4, 1 + 4)]);
+    // An occurrence of abca: md is 3, j − 1 is 4, so the move is KMP's by 3, with a carried; letters 2 to 4 remain.
+    assert_eq!(attempts(b"abca", b"abcabca"), [(1, 1 + 4), (4, 3)]);
+    // An occurrence of abc: md is 3 and j − 1 too, so that j becomes 1 and nothing is carried.
+    assert_eq!(attempts(b"abc", b"abcabc"), [(1, 1 + 3), (4, 1 + 3)]);
+}
+
+/// Each text starts with an occurrence, at which letter mdp and then all letters are looked at, and after which a is carried, with j at 2.
+#[test]
+fn improved_carried_windows_move_by_kmp() {
+    // Letter 2 is unequal. KMP_Shift[2] is 1 and leads to the occurrence at 3, with nothing carried. MAX_Shift[2] is 2 and would lose it.
+    assert_eq!(attempts(b"aba", b"abaaba"), [(1, 4), (3, 1), (4, 4)]);
+    assert_eq!(found(7, b"aba", b"abaaba"), (2, 9, vec![0, 3]));
+    // Letter 2 is equal, letter 3 is not: b[3] is 0, and the move by 3 leads to the occurrence at 5.
+    assert_eq!(attempts(b"aba", b"ababbaba"), [(1, 4), (3, 2), (6, 4)]);
+    assert_eq!(found(7, b"aba", b"ababbaba"), (2, 10, vec![0, 5]));
+    // Letters 2 and 3 are equal, letter 4 is not. KMP_Shift[4] is 2, with a carried again, and leads to the occurrence at 7. MAX_Shift[4] is 5 and
+    // would lose it.
+    assert_eq!(attempts(b"abaaca", b"abaacababaaca"), [(1, 7), (6, 3), (8, 5)]);
+    assert_eq!(found(7, b"abaaca", b"abaacababaaca"), (2, 15, vec![0, 7]));
+}
+
+/// Letter mdp is unequal and the window ends where the text ends, so there is no letter for Sunday's move.
+#[test]
+fn improved_stops_where_no_letter_follows() {
+    assert_eq!(found(7, b"abaaca", b"abaaaa"), (0, 1, vec![]));
+    // With a letter more there is a move, by 1 for a; it leads to the last window.
+    assert_eq!(attempts(b"abaaca", b"abaaaaa"), [(1, 1), (2, 1)]);
+    // With a letter that is absent the move by 7 passes the end.
+    assert_eq!(found(7, b"abaaca", b"abaaaax"), (0, 1, vec![]));
+    // After an occurrence: md is 2 and j − 1 too, nothing is carried, and letter 2 is unequal.
+    assert_eq!(attempts(b"ab", b"abaa"), [(1, 3), (3, 1)]);
+}
+
+/// md, mdp and both entries of MAX_Shift are 1. A letter that is equal is looked at twice; one that is not, once, with Sunday's move.
+#[test]
+fn improved_phrase_of_one_letter() {
+    assert_eq!((widest_gap(b"a"), improved_fjs::max_shift(b"a")), ((1, 1), vec![1, 1]));
+    assert_eq!(found(7, b"a", b"aaa"), (3, 6, vec![0, 1, 2]));
+    assert_eq!(found(7, b"b", b"aaa"), (0, 2, vec![]));
+    assert_eq!(found(7, b"a", b"a"), (1, 2, vec![0]));
+    assert_eq!(attempts(b"a", b"cabcca"), [(1, 1), (2, 2), (3, 1), (5, 1), (6, 2)]);
+    assert_eq!(found(7, b"a", b"cabcca"), (2, 7, vec![1, 5]));
+}
+
+#[test]
+fn improved_phrase_longer_than_the_text() {
+    assert_eq!(found(7, b"ab", b"a"), (0, 0, vec![]));
+    assert_eq!(found(7, b"b", b""), (0, 0, vec![]));
+    assert_eq!(found(7, &[b'a'; 1024], &[b'a'; 1023]), (0, 0, vec![]));
+}
+
+#[test]
+fn improved_scratch() {
+    let mut tables = [&[4; 256][..], &KMP_AND_MAX_SHIFT_OF_ABA].concat();
+    (tables[b'a' as usize], tables[b'b' as usize]) = (1, 2);
+    for length in [264, 265, 2306] {
+        let mut scratch = vec![7; length];
+        let mut list = [7; 3];
+        assert_eq!(find(7, b"aba", b"ababa", &mut scratch[..263], &mut list), (5, 0, 0));
+        assert_eq!((&scratch, list), (&vec![7; length], [7; 3]));
+        assert_eq!(find(7, b"aba", b"ababa", &mut scratch, &mut list), (0, 2, 6));
+        assert_eq!((scratch, list), ([tables.clone(), vec![7; length - 264]].concat(), [0, 2, 7]));
+        // A phrase longer than the text leaves the tables all the same.
+        let mut scratch = vec![7; length];
+        assert_eq!(find(7, b"aba", b"ab", &mut scratch, &mut list), (0, 0, 0));
+        assert_eq!((scratch, list), ([tables.clone(), vec![7; length - 264]].concat(), [0, 2, 7]));
+        // A list shorter than the total.
+        let mut list = [7];
+        assert_eq!((find(7, b"aba", b"ababa", &mut vec![7; length], &mut list), list), ((0, 2, 6), [0]));
+    }
+}
+
+#[test]
+fn improved_gives_the_naive_places() {
+    let same = |phrase: &[u8], text: &[u8]| {
+        let ((total, _, places), (naive_total, _, naive_places)) = (found(7, phrase, text), found(0, phrase, text));
+        assert_eq!((total, places), (naive_total, naive_places), "{phrase:?} in {text:?}");
+    };
+    let texts: Vec<Vec<u8>> = (0..=9).flat_map(words).collect();
+    for phrase in (1..=6).flat_map(words) {
+        texts.iter().for_each(|text| same(&phrase, text));
+    }
+    let texts: Vec<Vec<u8>> = (0..=7).flat_map(|length| words_over(b"abc", length)).collect();
+    for phrase in (1..=4).flat_map(|length| words_over(b"abc", length)) {
+        texts.iter().for_each(|text| same(&phrase, text));
     }
 }
 
@@ -217,7 +455,7 @@ fn starred_fjs_cases() {
 
 #[test]
 fn limits() {
-    let mut scratch = [0; 2000];
+    let mut scratch = [0; 2306];
     let text = [b'x'; 32_769];
     assert_eq!(find(4, &[b'a'; 1024], &text[..1024], &mut scratch, &mut []).0, 0);
     assert_eq!(find(4, &[b'a'; 1025], &text[..1024], &mut scratch, &mut []), (3, 0, 0));
@@ -227,8 +465,10 @@ fn limits() {
     assert_eq!(find(4, b"abc", &text[..9], &mut scratch[..260], &mut []).0, 0);
     assert_eq!(find(6, &[b'a'; 1024], &text[..1024], &mut scratch[..1279], &mut []), (5, 0, 0));
     assert_eq!(find(6, &[b'a'; 1024], &text[..1024], &mut scratch[..1280], &mut []).0, 0);
-    assert_eq!(find(6, b"", &text, &mut [], &mut []), (2, 0, 0));
-    assert_eq!(find(7, b"", &text, &mut [], &mut []), (1, 0, 0));
+    assert_eq!(find(7, &[b'a'; 1024], &text[..1024], &mut scratch[..2305], &mut []), (5, 0, 0));
+    assert_eq!(find(7, &[b'a'; 1024], &text[..1024], &mut scratch, &mut []).0, 0);
+    assert_eq!(find(7, b"", &text, &mut [], &mut []), (2, 0, 0));
+    assert_eq!(find(8, b"", &text, &mut [], &mut []), (1, 0, 0));
     assert_eq!(find(u32::MAX, b"", &text, &mut [], &mut []), (1, 0, 0));
 }
 

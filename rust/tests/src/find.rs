@@ -73,9 +73,10 @@ fn bound(method: u32, m: usize, n: usize) -> Option<usize> {
 }
 
 /// The numbers of the methods; the next one is no method.
-pub const METHODS: RangeInclusive<u32> = 0..=6;
+pub const METHODS: RangeInclusive<u32> = 0..=7;
 
-/// The scratch entries that a method needs (document 01's table, and document 02, (v) and (ii), for methods 5 and 6), and 300 for a number that is no method.
+/// The scratch entries that a method needs (document 01's table, and document 02, (v), (ii) and (x), for methods 5 to 7), and 300 for a number that
+/// is no method.
 pub fn needed(method: u32, m: usize) -> usize {
     match method {
         0 => 0,
@@ -83,6 +84,7 @@ pub fn needed(method: u32, m: usize) -> usize {
         2 | 3 | 5 => 256,
         4 => m + 257,
         6 => m + 256,
+        7 => 2 * (m + 1) + 256,
         _ => 300,
     }
 }

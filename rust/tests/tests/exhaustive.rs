@@ -33,33 +33,53 @@ fn double_window_by_an_absent_letter() {
     report("double_window_by_an_absent_letter", 14 * 29_524);
 }
 
-/// Boyer-Moore alone: DELTA2 of every phrase up to 11 letters of two and up to 7 of three, and its steps in the phrase twice over, where part of it
-/// stands again.
-#[test]
-fn boyer_moore_tables() {
-    let mut seed = 0;
+/// One method's tables of every phrase up to 11 letters of two and up to 7 of three, and its steps in the phrase twice over, where part of it stands
+/// again.
+fn every_table(name: &str, method: u32) {
     let of_two = (1..=11).flat_map(|length| all_words(2, length));
     let of_three = (1..=7).flat_map(|length| all_words(3, length));
-    for phrase in of_two.chain(of_three) {
+    for (seed, phrase) in (0..).zip(of_two.chain(of_three)) {
         let text = phrase.repeat(2);
-        compare(6, &phrase, &text, needed(6, phrase.len()) + (seed % 3) as usize, text.len() + 1, seed);
-        seed += 1;
+        compare(method, &phrase, &text, needed(method, phrase.len()) + (seed % 3) as usize, text.len() + 1, seed);
     }
-    report("boyer_moore_tables", 4094 + 3279);
+    report(name, 4094 + 3279);
 }
 
-/// Boyer-Moore alone, with phrases long enough for each of its moves: DELTA2's entries by a part that stands again, by a border, and by neither.
-#[test]
-fn boyer_moore_moves() {
+/// One method with phrases of 5 and 6 letters, which are long enough for each of its moves.
+fn every_move(name: &str, method: u32) {
     let texts: Vec<Vec<u8>> = (5..=11).flat_map(|length| all_words(2, length)).collect();
     let mut seed = 0;
     for phrase in (5..=6).flat_map(|length| all_words(2, length)) {
         for text in &texts {
-            compare(6, &phrase, text, needed(6, phrase.len()), text.len(), seed);
+            compare(method, &phrase, text, needed(method, phrase.len()), text.len(), seed);
             seed += 1;
         }
     }
-    report("boyer_moore_moves", 96 * 4064);
+    report(name, 96 * 4064);
+}
+
+/// DELTA1 and DELTA2.
+#[test]
+fn boyer_moore_tables() {
+    every_table("boyer_moore_tables", 6);
+}
+
+/// DELTA2's entries by a part that stands again, by a border, and by neither.
+#[test]
+fn boyer_moore_moves() {
+    every_move("boyer_moore_moves", 6);
+}
+
+/// The KMP entries and MAX_Shift.
+#[test]
+fn improved_tables() {
+    every_table("improved_tables", 7);
+}
+
+/// MAX_Shift's entries by the widest gap and by KMP's shift, and KMP's shift after a part match that was carried.
+#[test]
+fn improved_moves() {
+    every_move("improved_moves", 7);
 }
 
 #[test]

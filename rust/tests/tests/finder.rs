@@ -86,7 +86,7 @@ fn joined(phrase: &[u8], text: &[u8]) -> Vec<u8> {
 }
 
 /// The five lines of document 01's example, and the one that document 02, (v), adds.
-const LINES: &str = "naive 2 7 0 2\nkmp 2 5 0 2\nhorspool 2 6 0 2\nsunday 2 6 0 2\nfjs 2 5 0 2\nbm 2 6 0 2\ndouble 2 4 0 2\n";
+const LINES: &str = "naive 2 7 0 2\nkmp 2 5 0 2\nhorspool 2 6 0 2\nsunday 2 6 0 2\nfjs 2 5 0 2\nbm 2 6 0 2\ndouble 2 4 0 2\nimproved 2 6 0 2\n";
 
 #[test]
 fn the_document_example() {

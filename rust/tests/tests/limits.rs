@@ -98,8 +98,8 @@ fn every_scratch_length() {
             let enough = needed(method, m);
             let lengths: Vec<usize> = match method {
                 0 => vec![0, 1, 2],
-                1 | 4 | 6 => (0..=enough + 1).collect(),
-                _ => vec![0, 1, 255, 256, 257, 1281],
+                1 | 4 | 6 | 7 => (0..=enough + 1).collect(),
+                _ => vec![0, 1, 255, 256, 257, 2306],
             };
             for scratch_len in lengths {
                 let raw = compare(method, &phrase, &text, scratch_len, text.len(), random.next());

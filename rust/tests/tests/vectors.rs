@@ -1,7 +1,7 @@
 //! The program `vectors`: the file that the gate holds its output to is built again here from the reference alone, case by case in the program's order.
 
 use libretto_tests::programs::repository;
-use reference::{delta1_table, delta2_table, endings, find, horspool_table, kmp_table, line_and_column, sunday_table};
+use reference::{delta1_table, delta2_table, endings, find, horspool_table, kmp_table, line_and_column, max_shift_table, sunday_table, widest_gap};
 use std::fmt::Display;
 use std::fs;
 use std::ops::Range;
@@ -56,6 +56,21 @@ fn delta2_tables() -> String {
     one_more.concat() + &little.concat()
 }
 
+/// Two lines: the widest gap and its position, and the KMP entries and MAX_Shift in a table of so many entries.
+fn max_shift(pattern: &str, room: usize) -> String {
+    let (width, letter) = widest_gap(pattern.as_bytes());
+    let mut table = vec![9; room];
+    max_shift_table(pattern.as_bytes(), &mut table);
+    line(&format!("widest gap {pattern}"), [width, letter]) + &line(&format!("max shift table {pattern}"), table)
+}
+
+/// Source document 001's pattern first.
+fn max_shift_tables() -> String {
+    let one_more = ["abaaca", "a", "aaaa", "abab", "abcd", "abaab", "abababbbba", ""].map(|pattern| max_shift(pattern, 2 * pattern.len() + 3));
+    let little = [("abca", 10), ("abca", 9), ("abca", 5), ("", 2), ("", 1)].map(|(pattern, room)| max_shift(pattern, room));
+    one_more.concat() + &little.concat()
+}
+
 /// A find with a scratch of so many entries, and a list of four: all that it gives.
 fn found(asked: &str, method: u32, pattern: &[u8], text: &[u8], room: usize) -> String {
     let (mut scratch, mut list) = (vec![9; room], [9; 4]);
@@ -63,9 +78,11 @@ fn found(asked: &str, method: u32, pattern: &[u8], text: &[u8], room: usize) -> 
     line(asked, [refusal, total, comparisons].into_iter().chain(list))
 }
 
-const NAMES: [&str; 8] = ["naive", "kmp", "horspool", "sunday", "fjs", "double", "bm", "unknown"];
-/// Enough for every method.
+const NAMES: [&str; 9] = ["naive", "kmp", "horspool", "sunday", "fjs", "double", "bm", "improved", "unknown"];
+/// Enough for every method and a few letters.
 const ROOM: usize = 1281;
+/// Enough for every method and phrase.
+const ALL_ROOM: usize = 2306;
 
 /// A case of a few letters.
 fn case(method: u32, pattern: &str, text: &str, room: usize) -> String {
@@ -75,7 +92,7 @@ fn case(method: u32, pattern: &str, text: &str, room: usize) -> String {
 
 /// A case of m letters a in n letters a.
 fn limit(method: u32, m: usize, n: usize) -> String {
-    found(&format!("{} {m} {n}", NAMES[method as usize]), method, &vec![b'a'; m], &vec![b'a'; n], ROOM)
+    found(&format!("{} {m} {n}", NAMES[method as usize]), method, &vec![b'a'; m], &vec![b'a'; n], ALL_ROOM)
 }
 
 fn engine(method: u32, enough: usize) -> String {
@@ -98,6 +115,14 @@ fn boyer_moore() -> String {
     let moves = [("aba", "abcaba"), ("cabdab", "yyyydbcabdab"), ("bba", "ababba"), ("ab", "ababab"), ("aabaa", "aabaabaa"), ("aaaa", "aaaaaa")];
     let document_003 = ("AT-THAT", "WHICH-FINALLY-HALTS.--AT-THAT-POINT");
     moves.into_iter().chain([document_003]).map(|(pattern, text)| case(6, pattern, text, ROOM)).collect()
+}
+
+/// Request (x) of document 02.
+fn improved() -> String {
+    let figure_2 = [("abaaca", "abababcababbbca")];
+    let moves = [("abca", "bbbabca"), ("abaaca", "abaacbabaaca"), ("abc", "abcabc"), ("abca", "abcabca"), ("aba", "abaaba")];
+    let more = [("abaaca", "abaacababaaca"), ("abaa", "abba"), ("abaaca", "abaaaa"), ("a", "cabcca")];
+    figure_2.into_iter().chain(moves).chain(more).map(|(pattern, text)| case(7, pattern, text, ROOM)).collect()
 }
 
 /// A text by its bytes: letters, and the numbers of those that end lines.
@@ -140,8 +165,10 @@ fn line_rule() -> String {
 fn the_expected_output() {
     let path = repository().join("crates/vectors/stdout");
     let held = fs::read_to_string(&path).unwrap_or_else(|error| panic!("{}: {error}", path.display()));
-    let engines = [0, 4, 256, 256, 260, 256, 259].into_iter().zip(0..).map(|(enough, method)| engine(method, enough));
-    let due = [tables(), delta2_tables(), engines.collect(), case(7, "aba", "ababa", ROOM), kmp_bound(), boyer_moore(), line_rule()].concat();
+    let engines = [0, 4, 256, 256, 260, 256, 259, 264].into_iter().zip(0..).map(|(enough, method)| engine(method, enough));
+    let tables = [tables(), delta2_tables(), max_shift_tables()].concat();
+    let finds = [engines.collect(), case(8, "aba", "ababa", ROOM), kmp_bound(), boyer_moore(), improved()].concat();
+    let due = [tables, finds, line_rule()].concat();
 
     let (mut held_lines, mut due_lines) = (held.lines(), due.lines());
     for number in 1.. {

@@ -17,12 +17,12 @@ use Rattle.naive.proofs.find.Reads as find-reads′′′′
 use Rattle.sunday.proofs.find.Reads as find-reads′′′′′
 
 -- the method is k, and k's engine found
-by-engine : (k : ℕ) {method : ℕ} {P T scratch list : List ℕ} {r : Finding} {scratch′ list′ : List ℕ} → method ≡ k → k ≤ 6 → Found (engineOf k) P T scratch list r scratch′ list′
+by-engine : (k : ℕ) {method : ℕ} {P T scratch list : List ℕ} {r : Finding} {scratch′ list′ : List ℕ} → method ≡ k → k ≤ 7 → Found (engineOf k) P T scratch list r scratch′ list′
     → Answered method P T scratch list r scratch′ list′
 by-engine k e h f = record { refused = λ m. absurd (omega arith); found = λ _. rw e f }
 
--- none of the seven numbers is above 6
-above : {method : ℕ} → method ≤ 6 → 7 ≤ method → ⊥
+-- none of the eight numbers is above 7
+above : {method : ℕ} → method ≤ 7 → 8 ≤ method → ⊥
 above h l = omega arith
 
 find-requires : tie.Need-find-requires
@@ -45,6 +45,9 @@ find-requires-6 c κs = search needs
 
 find-requires-7 : tie.Need-find-requires-7
 find-requires-7 c κs = search needs
+
+find-requires-8 : tie.Need-find-requires-8
+find-requires-8 c κs = search needs
 
 same-length : tie.Need-same-length
 same-length c = search needs
@@ -116,13 +119,23 @@ returns-7 : tie.Need-returns-7
 unfolding engineOf
 returns-7 c = by-engine 6 (c .before .before .before .before .before .before .before .match .keys7) (omega arith) (c .before .before .before .before .find7 .ensures)
 
+same-length-15 : tie.Need-same-length-15
+same-length-15 c = search needs
+
+same-length-16 : tie.Need-same-length-16
+same-length-16 c = search needs
+
 returns-8 : tie.Need-returns-8
-returns-8 c =
+unfolding engineOf
+returns-8 c = by-engine 7 (c .before .before .before .before .before .before .before .match .keys8) (omega arith) (c .before .before .before .before .find8 .ensures)
+
+returns-9 : tie.Need-returns-9
+returns-9 c =
     let r = c .match .rest in
-    record {
-      refused = λ h. (refl, (refl, refl));
-      found = λ h. absurd (above h (beyond 6 (beyond 5 (beyond 4 (beyond 3 (beyond 2 (beyond 1 (beyond 0 any (r .0 .0 .0 .0 .0 .0 .1)) (r .0 .0 .0 .0 .0 .1)) (r .0 .0 .0 .0 .1)) (r .0 .0 .0 .1)) (r .0 .0 .1)) (r .0 .1)) (r .1)));
-    }
+    let from-1 = beyond 0 any (r .0 .0 .0 .0 .0 .0 .0 .1) in
+    let from-4 = beyond 3 (beyond 2 (beyond 1 from-1 (r .0 .0 .0 .0 .0 .0 .1)) (r .0 .0 .0 .0 .0 .1)) (r .0 .0 .0 .0 .1) in
+    let from-8 = beyond 7 (beyond 6 (beyond 5 (beyond 4 from-4 (r .0 .0 .0 .1)) (r .0 .0 .1)) (r .0 .1)) (r .1) in
+    record { refused = λ h. (refl, (refl, refl)); found = λ h. absurd (above h from-8) }
 
 pub find-spec : {M : Type 1} → statement M
 find-spec =
@@ -135,6 +148,7 @@ find-spec =
     find-requires-5
     find-requires-6
     find-requires-7
+    find-requires-8
     same-length
     same-length-2
     returns
@@ -156,4 +170,7 @@ find-spec =
     same-length-13
     same-length-14
     returns-7
-    returns-8)
+    same-length-15
+    same-length-16
+    returns-8
+    returns-9)

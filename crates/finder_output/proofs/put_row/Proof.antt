@@ -1,7 +1,10 @@
 -- `finder_output::put_row` meets its contract: each arm puts the line of its row. Assumes nothing.
 use borrow.Author.Needs.{needs}
 use mathlib.Core.Path.{_≡_}
+use Prim.Native.Nat.{ℕ, _≤_, _<_}
 use native.Mathlib.Omega.{arith}
+use lib.ListN.{length}
+use Rattle.matching.proofs.CaseAnalysis.{any, beyond}
 use Rattle.find.specs.Find.{engineOf}
 use Rattle.finder_output.specs.Printed.{rows}
 use Rattle.finder_output.proofs.put_row.Statement.{statement}
@@ -53,6 +56,12 @@ slice-aggregate-put-engine-7 c = search needs
 put-engine-requires-7 : tie.Need-put-engine-requires-7
 put-engine-requires-7 c κs = search needs
 
+slice-aggregate-put-engine-8 : tie.Need-slice-aggregate-put-engine-8
+slice-aggregate-put-engine-8 c = search needs
+
+put-engine-requires-8 : tie.Need-put-engine-requires-8
+put-engine-requires-8 c κs = search needs
+
 same-length : tie.Need-same-length
 same-length c = search needs
 
@@ -100,11 +109,25 @@ same-length-7 c = search needs
 
 returns-7 : tie.Need-returns-7
 unfolding rows engineOf
-returns-7 c =
+returns-7 c = let e = c .before .before in rw (e .before .before .before .match .keys7) (e .put-engine7 .ensures)
+
+-- the row after the first seven is the last
+last : {row : ℕ} → row < length rows → 7 ≤ row → row ≡ 7
+unfolding rows
+last h l = omega arith
+
+same-length-8 : tie.Need-same-length-8
+same-length-8 c = search needs
+
+returns-8 : tie.Need-returns-8
+unfolding rows engineOf
+returns-8 c =
     let e = c .before .before in
     let m = e .before .before .before in
-    let is : start m .args .row ≡ 6 = omega (arith, start m .pre .0, m .match .rest) in
-    rw is (e .put-engine7 .ensures)
+    let r = m .match .rest in
+    let from-3 = beyond 2 (beyond 1 (beyond 0 any (r .0 .0 .0 .0 .0 .0 .1)) (r .0 .0 .0 .0 .0 .1)) (r .0 .0 .0 .0 .1) in
+    let from-7 = beyond 6 (beyond 5 (beyond 4 (beyond 3 from-3 (r .0 .0 .0 .1)) (r .0 .0 .1)) (r .0 .1)) (r .1) in
+    rw (last (start m .pre .0) from-7) (e .put-engine8 .ensures)
 
 pub put-row-spec : {M : Type 1} → statement M
 put-row-spec =
@@ -124,6 +147,8 @@ put-row-spec =
     put-engine-requires-6
     slice-aggregate-put-engine-7
     put-engine-requires-7
+    slice-aggregate-put-engine-8
+    put-engine-requires-8
     same-length
     returns
     same-length-2
@@ -137,4 +162,6 @@ put-row-spec =
     same-length-6
     returns-6
     same-length-7
-    returns-7)
+    returns-7
+    same-length-8
+    returns-8)

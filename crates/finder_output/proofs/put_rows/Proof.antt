@@ -10,15 +10,15 @@ use Rattle.finder_output.proofs.put_rows.Statement.{statement}
 use Rattle.finder_output.proofs.put_rows.Tie as tie
 
 -- as many rows as the code goes through
-row-count : length rows ≡ 7
+row-count : length rows ≡ 8
 unfolding rows
 row-count = refl
 
 abbrev Inv-loop : tie.InvT-loop
-Inv-loop phrase text output₀ at₀ row₀ output at row = Laid output at (putAll output₀ 0 (engineLines (take row rows) phrase text)) × ((row ≤ 7) × (length output ≡ length output₀))
+Inv-loop phrase text output₀ at₀ row₀ output at row = Laid output at (putAll output₀ 0 (engineLines (take row rows) phrase text)) × ((row ≤ 8) × (length output ≡ length output₀))
 
 abbrev μ-loop : tie.MeasureT-loop
-μ-loop phrase text output₀ at₀ row₀ output at row = 7 - row
+μ-loop phrase text output₀ at₀ row₀ output at row = 8 - row
 
 -- the call, from the loop
 abbrev start : tie.At-loop Inv-loop μ-loop → tie.Start Inv-loop μ-loop

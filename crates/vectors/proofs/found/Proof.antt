@@ -12,7 +12,7 @@ array-borrow-prefix-scratch : tie.Need-array-borrow-prefix-scratch
 array-borrow-prefix-scratch c = search needs
 
 slice-aggregate-find : tie.Need-slice-aggregate-find
-slice-aggregate-find c = sym (length-take-le (c .before .before .before .before .args .room) (replicate 1281 9) (omega (arith, length-replicate {A = ℕ} 1281 9)))
+slice-aggregate-find c = sym (length-take-le (c .before .before .before .before .args .room) (replicate 2306 9) (omega (arith, length-replicate {A = ℕ} 2306 9)))
 
 slice-aggregate-find-2 : tie.Need-slice-aggregate-find-2
 slice-aggregate-find-2 c = search needs
