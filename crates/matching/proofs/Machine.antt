@@ -11,7 +11,7 @@ use lib.Dec.{leb}
 use borrow.Author.Tests.{le-leb, lt-leb, leb-true, leb-false}
 use Rattle.matching.specs.Occurrences.{occursAt, occursFrom, occurrences}
 use Rattle.matching.specs.Letters.{equalOn, equalDown}
-use Rattle.matching.specs.Machine.{State, stop, at, Window, Steps, Visit, windows, runFrom, run, comparedIn, positionsIn, firstToLast, lastToFirst}
+use Rattle.matching.specs.Machine.{State, stop, at, Window, Steps, visit, windows, runFrom, run, comparedIn, positionsIn, firstToLast, lastToFirst}
 use Rattle.matching.proofs.CaseAnalysis.{by-test}
 use Rattle.matching.proofs.Occurrences.{Stands, no-occurrence, rest, rest-step, rest-skip, rest-none, rest-past}
 use Rattle.matching.proofs.Letters.{Meets, meets-none, reach-le, reach-reports, down-le, down-reports, looks-le}
@@ -78,11 +78,8 @@ module _ {P T : List ℕ} {s : ℕ} {x : State} (inside : s + length P ≤ lengt
 
 -- ---- the run by its windows
 
-abbrev visit : Steps → List ℕ → List ℕ → ℕ → ℕ → Visit
-visit w P T s q = record { start = s; window = w P T s q }
-
 pub windows-on : (f : ℕ) (w : Steps) (P T : List ℕ) (s q : ℕ) → s + length P ≤ length T
-    → windows (suc f) w P T (at s q) ≡ record { start = s; window = w P T s q } ∷ windows f w P T (w P T s q .next)
+    → windows (suc f) w P T (at s q) ≡ visit w P T s q ∷ windows f w P T (w P T s q .next)
 unfolding windows
 windows-on f w P T s q h = rw (le-leb (s + length P) (length T) h)
 
@@ -130,7 +127,7 @@ module _ {w : Steps} {P T : List ℕ} (sound : Sound w P T) where
       windows-off (suc f) w P T s q past ∙ sym (windows-off (suc g) w P T s q past))
 
   -- the run's equations: they name no bound, so the run ends by its stop rules alone
-  pub run-on : (s q : ℕ) → s + length P ≤ length T → Carries P T s q → runFrom w P T (at s q) ≡ record { start = s; window = w P T s q } ∷ runFrom w P T (w P T s q .next)
+  pub run-on : (s q : ℕ) → s + length P ≤ length T → Carries P T s q → runFrom w P T (at s q) ≡ visit w P T s q ∷ runFrom w P T (w P T s q .next)
   unfolding runFrom
   run-on s q h k =
       let r = sound .right s q h k in

@@ -12,7 +12,7 @@ use borrow.Author.Tests.{eq-eqb, ne-eqb}
 use Rattle.matching.specs.Occurrences.{occurrences}
 use Rattle.matching.specs.Received.{received}
 use Rattle.matching.specs.Letters.{equalOn, reach, equalDown}
-use Rattle.matching.specs.Machine.{State, stop, at, Window, Steps, Visit, runFrom, run, comparedIn, positionsIn, firstToLast, lastToFirst}
+use Rattle.matching.specs.Machine.{State, stop, at, Window, Steps, Visit, visit, runFrom, run, comparedIn, positionsIn, firstToLast, lastToFirst}
 use Rattle.matching.specs.Find.{Engine, compared, refusalOf, Found}
 use Rattle.matching.proofs.CaseAnalysis.{by-test}
 use Rattle.matching.proofs.Occurrences.{occurrences-few}
@@ -35,13 +35,13 @@ positions-append (u ∷ us) vs =
     by-test (λ t. cond t (u .start ∷ positionsIn (us ++ vs)) (positionsIn (us ++ vs)) ≡ cond t (u .start ∷ positionsIn us) (positionsIn us) ++ positionsIn vs) (u .window .stands)
     (λ _. ap (λ l. u .start ∷ l) (positions-append us vs)) (λ _. positions-append us vs)
 
-positions-one : (s : ℕ) (v : Window) → positionsIn (record { start = s; window = v } ∷ []) ≡ cond (v .stands) (s ∷ []) []
+positions-one : (v : Visit) → positionsIn (v ∷ []) ≡ cond (v .window .stands) (v .start ∷ []) []
 unfolding positionsIn
-positions-one s v = refl
+positions-one v = refl
 
-compared-one : (s : ℕ) (v : Window) → comparedIn (record { start = s; window = v } ∷ []) ≡ v .compared
+compared-one : (v : Visit) → comparedIn (v ∷ []) ≡ v .window .compared
 unfolding comparedIn
-compared-one s v = omega arith
+compared-one v = omega arith
 
 -- ---- the loop's invariant
 
@@ -84,21 +84,21 @@ begins {e} {P} {T} {list} limits sound =
 module _ {e : Engine} {P T list₀ : List ℕ} {s q total compared : ℕ} {list : List ℕ} (p : Progress e P T list₀ (at s q) total compared list) (inside : s + length P ≤ length T) where
   -- with one window more done
   more : List Visit
-  more = p .done ++ (record { start = s; window = e .steps P T s q } ∷ [])
+  more = p .done ++ (visit (e .steps) P T s q ∷ [])
 
   onward : more ++ runFrom (e .steps) P T (e .steps P T s q .next) ≡ run (e .steps) P T
   unfolding more
   onward =
-      append-assoc (p .done) (record { start = s; window = e .steps P T s q } ∷ []) (runFrom (e .steps) P T (e .steps P T s q .next))
+      append-assoc (p .done) (visit (e .steps) P T s q ∷ []) (runFrom (e .steps) P T (e .steps P T s q .next))
       ∙ ap (λ vs. p .done ++ vs) (sym (run-on (p .sound) s q inside (p .carried))) ∙ p .whole
 
   looked-more : compared + e .steps P T s q .compared ≡ comparedIn more
   unfolding more
-  looked-more = omega (arith, p .looked, compared-append (p .done) (record { start = s; window = e .steps P T s q } ∷ []), compared-one s (e .steps P T s q))
+  looked-more = omega (arith, p .looked, compared-append (p .done) (visit (e .steps) P T s q ∷ []), compared-one (visit (e .steps) P T s q))
 
   positions-more : positionsIn more ≡ positionsIn (p .done) ++ cond (e .steps P T s q .stands) (s ∷ []) []
   unfolding more
-  positions-more = positions-append (p .done) _ ∙ ap (λ l. positionsIn (p .done) ++ l) (positions-one s (e .steps P T s q))
+  positions-more = positions-append (p .done) _ ∙ ap (λ l. positionsIn (p .done) ++ l) (positions-one (visit (e .steps) P T s q))
 
   stepped : {total′ : ℕ} {list′ : List ℕ} → total′ ≡ length (positionsIn more) → list′ ≡ received list₀ (positionsIn more) → Progress e P T list₀ (e .steps P T s q .next) total′ (compared + e .steps P T s q .compared) list′
   stepped counted stored =

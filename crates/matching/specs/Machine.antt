@@ -22,17 +22,21 @@ pub record Window : Type 0 where
 abbrev pub Steps : Type 0
 Steps = List ℕ → List ℕ → ℕ → ℕ → Window
 
--- a window of a run, with its start
+-- a window of a run, with its start and the letters that it carries
 pub record Visit : Type 0 where
   pub start : ℕ
+  pub carried : ℕ
   pub window : Window
+
+abbrev pub visit : Steps → List ℕ → List ℕ → ℕ → ℕ → Visit
+visit w P T s q = record { start = s; carried = q; window = w P T s q }
 
 -- the windows from a state on, until the engine stops or its next window would pass the text's end; the first argument bounds their number
 unfoldable pub windows : ℕ → Steps → List ℕ → List ℕ → State → List Visit
 windows zero w P T x = []
 windows (suc f) w P T stop = []
 windows (suc f) w P T (at s q) =
-    let on : List Visit = record { start = s; window = w P T s q } ∷ windows f w P T (w P T s q .next) in
+    let on : List Visit = visit w P T s q ∷ windows f w P T (w P T s q .next) in
     cond (leb (s + length P) (length T)) on []
 
 -- the same with room for n + 1 windows, which is enough where each starts past the one before it (the law `run-on`)
