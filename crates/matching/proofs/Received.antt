@@ -3,7 +3,7 @@ use mathlib.Core.Path.{_≡_, refl, sym, ap, _∙_}
 use Prim.Native.Nat.{ℕ, zero, suc, _+_, _≤_}
 use native.Mathlib.Omega.{arith}
 use native.Mathlib.Numerals.{add-one}
-use mathlib.Core.List.{List, [], _∷_, _++_, append-nil}
+use mathlib.Core.List.{List, [], _∷_, _++_, append-nil, append-assoc}
 use lib.ListN.{length, set, replicate, length-replicate, length-append, length-take, length-drop, take, drop}
 use lib.Seq.{take-nil, take-all, drop-length}
 use Rattle.matching.specs.Received.{received}
@@ -28,6 +28,18 @@ module _ {ℓ} {A : Type ℓ} where
   received-more [] values x = rw (received-full values) (sym (received-full (values ++ x ∷ [])))
   received-more (y ∷ list) [] x = rw (received-none (y ∷ list)) (sym (received-cons y x list [] ∙ ap (λ (l : List A). x ∷ l) (received-none list)))
   received-more (y ∷ list) (v ∷ values) x = rw (received-cons y v list values) (ap (λ (l : List A). v ∷ l) (received-more list values x) ∙ sym (received-cons y v list (values ++ x ∷ [])))
+
+  -- and three more are set one after another
+  pub received-three : (list values : List A) (at : ℕ) (a b c : A) → length values ≡ at → set (set (set (received list values) at a) (at + 1) b) (at + 2) c ≡ received list (values ++ a ∷ b ∷ c ∷ [])
+  received-three list values at a b c e =
+      let one : List A = values ++ a ∷ [] in
+      let two : List A = one ++ b ∷ [] in
+      let first : set (received list values) at a ≡ received list one = ap (λ (k : ℕ). set (received list values) k a) (sym e) ∙ received-more list values a in
+      let size : at + 1 ≡ length one = omega (arith, length-append values (a ∷ [])) in
+      let second : set (received list one) (at + 1) b ≡ received list two = ap (λ (k : ℕ). set (received list one) k b) size ∙ received-more list one b in
+      let size₂ : at + 2 ≡ length two = omega (arith, length-append one (b ∷ []), length-append values (a ∷ [])) in
+      ap (λ (l : List A). set (set l (at + 1) b) (at + 2) c) first ∙ ap (λ (l : List A). set l (at + 2) c) second ∙ ap (λ (k : ℕ). set (received list two) k c) size₂ ∙ received-more list two c
+      ∙ ap (received list) (append-assoc one (b ∷ []) (c ∷ []) ∙ append-assoc values (a ∷ []) (b ∷ c ∷ []))
 
   -- the list keeps its length
   pub length-received : (list values : List A) → length (received list values) ≡ length list

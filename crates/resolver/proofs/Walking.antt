@@ -5,7 +5,7 @@ use Prim.Native.Nat.{ℕ, suc, _+_, _-_, _*_, _≤_, _<_}
 use native.Mathlib.Omega.{arith}
 use native.Mathlib.Numerals.{add-one}
 use mathlib.Core.Bool.{true, false}
-use mathlib.Core.List.{List, [], _∷_, _++_, append-assoc}
+use mathlib.Core.List.{List, [], _∷_, _++_}
 use lib.ListN.{length, getD, drop, set, length-append}
 use types.Run.{OneOf}
 use borrow.Author.Tests.{eq-eqb}
@@ -14,7 +14,7 @@ use Rattle.matching.specs.Occurrences.{occurrences, hasNth}
 use Rattle.matching.specs.Find.{refusalOf}
 use Rattle.matching.specs.Received.{received}
 use Rattle.matching.proofs.CaseAnalysis.{by-test}
-use Rattle.matching.proofs.Received.{received-none, received-more}
+use Rattle.matching.proofs.Received.{received-none, received-three}
 use Rattle.matching.proofs.Find.{none-refused}
 use Rattle.fold.specs.Fold.{folded}
 use Rattle.fjs.specs.declared.Place.{Place}
@@ -70,19 +70,6 @@ module _ (positions : List ℕ) (ordinal : ℕ) {r : Place} (is : r ≡ nthOf po
       (λ _ h. h)
       refl
 
--- ---- three entries put one after another
-
-pub put-three : (list written : List ℕ) (at a b c : ℕ) → length written ≡ at → set (set (set (received list written) at a) (at + 1) b) (at + 2) c ≡ received list (written ++ a ∷ b ∷ c ∷ [])
-put-three list written at a b c e =
-    let one : List ℕ = written ++ a ∷ [] in
-    let two : List ℕ = one ++ b ∷ [] in
-    let first : set (received list written) at a ≡ received list one = ap (λ (k : ℕ). set (received list written) k a) (sym e) ∙ received-more list written a in
-    let size : at + 1 ≡ length one = omega (arith, length-append written (a ∷ [])) in
-    let second : set (received list one) (at + 1) b ≡ received list two = ap (λ (k : ℕ). set (received list one) k b) size ∙ received-more list one b in
-    let size₂ : at + 2 ≡ length two = omega (arith, length-append one (b ∷ []), length-append written (a ∷ [])) in
-    ap (λ (l : List ℕ). set (set l (at + 1) b) (at + 2) c) first ∙ ap (λ (l : List ℕ). set l (at + 2) c) second ∙ ap (λ (k : ℕ). set (received list two) k c) size₂ ∙ received-more list two c
-    ∙ ap (received list) (append-assoc one (b ∷ []) (c ∷ []) ∙ append-assoc written (a ∷ []) (b ∷ c ∷ []))
-
 -- ---- along the walk: the cues up to a place are judged, their entries put, and they and what the rest is judged are the whole
 
 pub record Along (book text : List ℕ) (cs : List Cue) (entries₀ : List ℕ) (index at place : ℕ) (entries : List ℕ) : Type 0 where
@@ -131,7 +118,7 @@ module _ {book text : List ℕ} {cs : List Cue} {entries₀ : List ℕ} {index a
       → set (set (set entries at position) (at + 1) (lineColumn text position .line)) (at + 2) (lineColumn text position .column) ≡ received entries₀ (entriesOf text (d .found ++ placeOf folded text c ∷ []))
   along-put c p =
       ap₂ (λ (l : List ℕ) (v : ℕ). set (set (set l at v) (at + 1) (lineColumn text v .line)) (at + 2) (lineColumn text v .column)) (d .entered) p
-      ∙ put-three entries₀ (entriesOf text (d .found)) at (placeOf folded text c) (lineColumn text (placeOf folded text c) .line) (lineColumn text (placeOf folded text c) .column)
+      ∙ received-three entries₀ (entriesOf text (d .found)) at (placeOf folded text c) (lineColumn text (placeOf folded text c) .line) (lineColumn text (placeOf folded text c) .column)
       (entries-count text (d .found) ∙ omega (arith, d .counted, d .three))
       ∙ ap (received entries₀) (sym (entries-more text (d .found) (placeOf folded text c)))
 
