@@ -1,21 +1,47 @@
--- What `find` and `nth` bring to the search that they share, from a call that is not refused; and the entries that the search reads. Assumes nothing.
-use mathlib.Core.Path.{_≡_, _∙_}
-use Prim.Native.Nat.{ℕ, _+_}
+-- What `find` and `nth` bring to the search that they share, from a call that is not refused; the entries that the search reads; and what `find` makes of what it found.
+-- Assumes nothing.
+use mathlib.Core.Path.{_≡_, refl, _∙_}
+use mathlib.Core.Logic.{inl}
+use Prim.Native.Nat.{ℕ, _+_, _-_, _*_, _≤_}
+use native.Mathlib.Omega.{arith}
 use mathlib.Core.List.{List}
 use lib.ListN.{length, drop}
+use borrow.Author.Tests.{eq-eqb}
 use Rattle.matching.specs.Received.{received}
-use Rattle.matching.proofs.Find.{Within}
-use Rattle.matching.proofs.Progress.{Accepted}
+use Rattle.matching.specs.Find.{refusalOf, Found}
+use Rattle.matching.proofs.Occurrences.{occurrences-few}
+use Rattle.matching.proofs.Find.{Within, found-refused, found-accepted}
+use Rattle.matching.proofs.Progress.{Accepted, compared-fits}
 use Rattle.tables.specs.Tables.{Entries}
 use Rattle.tables.proofs.Tables.{first-entries, second-entries, both-received}
 use Rattle.letter_tables.specs.BadCharacter.{sundayEntry}
 use Rattle.border_tables.specs.Kmp.{kmpEntry}
+use Rattle.fjs.specs.declared.Tally.{Tally}
 use Rattle.fjs.specs.Fjs.{fjs}
-use Rattle.fjs.specs.Search.{Ready}
+use Rattle.fjs.specs.Search.{prepared, Ready, Searched}
+use Rattle.fjs.proofs.Sound.{sound}
+use Rattle.fjs.proofs.Bound.{bound}
 
--- the limits are kept and both tables are made
-pub ready : {P T scratch scratch′ : List ℕ} → Accepted fjs P T scratch → scratch′ ≡ received scratch (fjs .tables P) → Ready P T scratch′
-ready {P} {T} {scratch} a tables = let l = a .limits in record { some = l .some; short = l .short; small = l .small; rest = drop (fjs .entries (length P)) scratch; tables = tables ∙ both-received 256 (length P + 1) (sundayEntry P) (kmpEntry P) scratch (l .room) }
+-- the scratch after the tables were made, or not, where the call is refused
+module _ {P T scratch scratch′ : List ℕ} (left : scratch′ ≡ prepared P T scratch) where
+  pub made : Accepted fjs P T scratch → scratch′ ≡ received scratch (fjs .tables P)
+  made a = left ∙ rw (eq-eqb (refusalOf fjs P T scratch) 0 (a .none))
+
+  -- the limits are kept and both tables are made
+  pub ready : Accepted fjs P T scratch → Ready P T scratch′
+  ready a =
+      let l = a .limits in
+      record {
+        some = l .some;
+        short = l .short;
+        small = l .small;
+        rest = drop (fjs .entries (length P)) scratch;
+        tables = made a ∙ both-received 256 (length P + 1) (sundayEntry P) (kmpEntry P) scratch (l .room);
+      }
+
+  -- a find that is refused
+  pub found-none : {list : List ℕ} {number : ℕ} → number ≡ refusalOf fjs P T scratch → (number ≡ 0 → ⊥) → Found fjs P T scratch list (record { refusal = number; total = 0; comparisons = 0 }) scratch′ list
+  found-none {list} {number} is some = let f : Found fjs P T scratch list (record { refusal = number; total = 0; comparisons = 0 }) scratch list = found-refused is some in record { answer = f .answer; left = left; listed = f .listed }
 
 module _ {P T scratch : List ℕ} (r : Ready P T scratch) where
   pub sundays : Entries 0 256 (sundayEntry P) scratch
@@ -26,3 +52,17 @@ module _ {P T scratch : List ℕ} (r : Ready P T scratch) where
 
   pub limits : Within (length P) (length T) (length scratch) (fjs .entries (length P))
   limits = record { some = r .some; short = r .short; small = r .small; room = kmps .room }
+
+-- a search without a limit, in a call that is not refused: its numbers fit 32 bits, the find keeps its promise, and demand 3's bound is that of the steps
+module _ {P T scratch list list′ : List ℕ} {r : Tally} (a : Accepted fjs P T scratch) (s : Searched P T list 0 r list′) where
+  pub total-fits : r .total ≤ 32769
+  total-fits = omega (arith, s .total (inl refl), occurrences-few P T, a .limits .small)
+
+  pub looks-fit : r .comparisons ≤ 33588225
+  looks-fit = let l = a .limits in omega (arith, s .comparisons (inl refl), compared-fits fjs (sound P T (l .some)) (l .short) (l .small))
+
+  pub found-all : {scratch′ : List ℕ} → scratch′ ≡ prepared P T scratch → Found fjs P T scratch list (record { refusal = 0; total = r .total; comparisons = r .comparisons }) scratch′ list′
+  found-all left = found-accepted (a .none) (s .total (inl refl)) (s .comparisons (inl refl)) (made left a) (s .listed (inl refl))
+
+  pub found-bounded : length P ≤ length T → r .comparisons ≤ 3 * length T - 2 * length P
+  found-bounded h = omega (arith, s .comparisons (inl refl), bound P T (a .limits .some) h)

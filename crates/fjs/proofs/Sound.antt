@@ -1,4 +1,4 @@
--- FJS's steps are right at every window whose carried letters are equal, by the laws of its two tables. First the step by its cases, in terms of `reach`: how many letters are
+-- FJS's steps are right at every window whose carried letters are equal, by the laws of its two tables. First the step and its window by their cases, in terms of `reach`: how many letters are
 -- equal from the window's start on. Assumes nothing.
 use mathlib.Core.Path.{_≡_, refl, sym, ap, _∙_}
 use Prim.Native.Nat.{ℕ, zero, suc, _+_, _-_, _≤_, min}
@@ -18,24 +18,38 @@ use Rattle.letter_tables.specs.Moves.{sundayMove}
 use Rattle.border_tables.specs.Moves.{kmpMove}
 use Rattle.letter_tables.proofs.Moves.{sunday-right}
 use Rattle.border_tables.proofs.Moves.{kmp-moves}
-use Rattle.fjs.specs.Fjs.{endEqual, before, ended, fresh, step, window}
+use Rattle.fjs.specs.Fjs.{Step, endEqual, before, ended, fresh, carried, step, window}
 
--- ---- the window by its cases
+-- ---- the step by its cases
 
 module _ (P T : List ℕ) (s : ℕ) where
-  window-none : window P T s 0 ≡ cond (endEqual P T s) (fresh P T s) (ended P T s) .window
-  unfolding window step
-  window-none = refl
+  step-none : step P T s 0 ≡ cond (endEqual P T s) (fresh P T s) (ended P T s)
+  unfolding step
+  step-none = refl
 
   -- with nothing carried, and the last letter unequal
-  pub window-end : (getD P (length P - 1) 0 ≡ getD T (s + (length P - 1)) 0 → ⊥) → window P T s 0 ≡ record { compared = 1; stands = false; next = sundayMove P T s }
-  window-end differs = window-none ∙ ap (λ t. cond t (fresh P T s) (ended P T s) .window) (ne-eqb (getD P (length P - 1) 0) (getD T (s + (length P - 1)) 0) differs)
+  pub step-end : (getD P (length P - 1) 0 ≡ getD T (s + (length P - 1)) 0 → ⊥) → step P T s 0 ≡ ended P T s
+  step-end differs = step-none ∙ ap (λ t. cond t (fresh P T s) (ended P T s)) (ne-eqb (getD P (length P - 1) 0) (getD T (s + (length P - 1)) 0) differs)
+
+  -- and the last letter equal
+  pub step-fresh : getD P (length P - 1) 0 ≡ getD T (s + (length P - 1)) 0 → step P T s 0 ≡ fresh P T s
+  step-fresh equal = step-none ∙ ap (λ t. cond t (fresh P T s) (ended P T s)) (eq-eqb (getD P (length P - 1) 0) (getD T (s + (length P - 1)) 0) equal)
 
   -- with a part match carried
+  pub step-carried : (q : ℕ) → 1 ≤ q → step P T s q ≡ carried P T s q
+  unfolding step
+  step-carried zero h = absurd (omega arith)
+  step-carried (suc q) h = refl
+
+  window-is : (q : ℕ) {x : Step} → step P T s q ≡ x → window P T s q ≡ x .window
+  unfolding window
+  window-is q e = ap (λ x. x .window) e
+
+  pub window-end : (getD P (length P - 1) 0 ≡ getD T (s + (length P - 1)) 0 → ⊥) → window P T s 0 ≡ record { compared = 1; stands = false; next = sundayMove P T s }
+  window-end differs = window-is 0 (step-end differs)
+
   pub window-carried : (q : ℕ) → 1 ≤ q → window P T s q ≡ firstToLast P T s q (kmpMove P s (reach P T s q))
-  unfolding window step
-  window-carried zero h = absurd (omega arith)
-  window-carried (suc q) h = refl
+  window-carried q h = window-is q (step-carried q h)
 
   module _ (some : 1 ≤ length P) (inside : s + length P ≤ length T) (equal : getD P (length P - 1) 0 ≡ getD T (s + (length P - 1)) 0) where
     -- with nothing carried, and the last letter equal: letters 1 to m - 1 reach as far as the whole pattern does, but for the last letter itself
@@ -63,9 +77,7 @@ module _ (P T : List ℕ) (s : ℕ) where
         refl)
 
     pub window-fresh : window P T s 0 ≡ record { compared = suc (looks (length P - 1) (min (length P - 1) (reach P T s 0))); stands = eqb (reach P T s 0) (length P); next = kmpMove P s (reach P T s 0) }
-    window-fresh =
-        window-none ∙ ap (λ t. cond t (fresh P T s) (ended P T s) .window) (eq-eqb (getD P (length P - 1) 0) (getD T (s + (length P - 1)) 0) equal)
-        ∙ rw (reached, all-before, before-is)
+    window-fresh = window-is 0 (step-fresh equal) ∙ rw (reached, all-before, before-is)
 
 -- ---- every window is right
 

@@ -2,13 +2,18 @@
 use mathlib.Core.Path.{_≡_}
 use Prim.Native.Nat.{ℕ, _-_, _≤_, _<_}
 use mathlib.Core.Logic.{_⊎_}
+use mathlib.Core.Bool.{cond}
 use mathlib.Core.List.{List, _++_}
 use lib.ListN.{length, getD}
 use Rattle.matching.specs.Occurrences.{occurrences}
 use Rattle.matching.specs.Received.{received}
-use Rattle.matching.specs.Find.{compared}
+use Rattle.matching.specs.Find.{compared, accepts}
 use Rattle.fjs.specs.declared.Tally.{Tally}
 use Rattle.fjs.specs.Fjs.{fjs}
+
+-- the scratch after the tables were made, or not, where the call is refused
+abbrev pub prepared : List ℕ → List ℕ → List ℕ → List ℕ
+prepared P T scratch = cond (accepts fjs P T scratch) (received scratch (fjs .tables P)) scratch
 
 -- the limits of a find are kept, and the tables stand at the scratch's front
 pub record Ready (P T scratch : List ℕ) : Type 0 where

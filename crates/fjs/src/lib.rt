@@ -6,10 +6,10 @@ ghost use mathlib.Core.Path.{_≡_};
 ghost use Prim.Native.Nat.{_+_, _-_, _*_, _≤_};
 ghost use lib.ListN.{length};
 ghost use Rattle.matching.specs.Received.{received};
-ghost use Rattle.matching.specs.Find.{Found};
+ghost use Rattle.matching.specs.Find.{refusalOf, Found};
 ghost use Rattle.fjs.specs.Fjs.{fjs};
 ghost use Rattle.fjs.specs.Nth.{Located};
-ghost use Rattle.fjs.specs.Search.{Ready, Searched};
+ghost use Rattle.fjs.specs.Search.{prepared, Ready, Searched};
 
 // Where the occurrence of an ordinal stands: the refusal of the call, a position, or that there is no such occurrence.
 pub enum Place {
@@ -32,6 +32,22 @@ fn make_tables(pattern: &[u8], scratch: &mut [u16])
 {
     letter_tables::sunday_table(pattern, &mut scratch[..256]);
     border_tables::kmp_table(pattern, &mut scratch[256..]);
+}
+
+// The refusal of the call, 0 for none; where it is none, both tables are made.
+fn prepare(pattern: &[u8], text: &[u8], scratch: &mut [u16]) -> u32
+    ensures { λ r. ⌜ (r ≡ refusalOf fjs (now (pattern .entry)) (now (text .entry)) (now (scratch .entry))) × (now (scratch .exit) ≡ prepared (now (pattern .entry)) (now (text .entry)) (now (scratch .entry))) ⌝ }
+{
+    let refusal = matching::refused(
+        pattern.len(),
+        text.len(),
+        scratch.len(),
+        256 + (pattern.len() + 1),
+    );
+    if refusal == 0 {
+        make_tables(pattern, scratch);
+    }
+    refusal
 }
 
 // Finds occurrences up to the limit, or all where it is 0. The window starts at s, and its first q letters are carried.
@@ -98,12 +114,7 @@ pub fn find(pattern: &[u8], text: &[u8], scratch: &mut [u16], list: &mut [u32]) 
     ensures { λ r. ⌜ Found fjs (now (pattern .entry)) (now (text .entry)) (now (scratch .entry)) (now (list .entry)) r (now (scratch .exit)) (now (list .exit)) ⌝ }
     ensures bounded { λ r. ⌜ (length (now (pattern .entry)) ≤ length (now (text .entry)) → r .comparisons ≤ 3 * length (now (text .entry)) - 2 * length (now (pattern .entry))) ⌝ }
 {
-    let refusal = matching::refused(
-        pattern.len(),
-        text.len(),
-        scratch.len(),
-        256 + (pattern.len() + 1),
-    );
+    let refusal = prepare(pattern, text, scratch);
     if refusal != 0 {
         return Finding {
             refusal,
@@ -111,7 +122,6 @@ pub fn find(pattern: &[u8], text: &[u8], scratch: &mut [u16], list: &mut [u32]) 
             comparisons: 0,
         };
     }
-    make_tables(pattern, scratch);
     let r = search(pattern, text, scratch, list, 0);
     let found = r.total as u32;
     let looks = r.comparisons as u32;
@@ -126,16 +136,10 @@ pub fn find(pattern: &[u8], text: &[u8], scratch: &mut [u16], list: &mut [u32]) 
 pub fn nth(pattern: &[u8], text: &[u8], scratch: &mut [u16], ordinal: u32) -> Place
     ensures { λ r. ⌜ Located (now (pattern .entry)) (now (text .entry)) (now (scratch .entry)) ordinal r (now (scratch .exit)) ⌝ }
 {
-    let refusal = matching::refused(
-        pattern.len(),
-        text.len(),
-        scratch.len(),
-        256 + (pattern.len() + 1),
-    );
+    let refusal = prepare(pattern, text, scratch);
     if refusal != 0 {
         return Place::Refused(refusal);
     }
-    make_tables(pattern, scratch);
     if ordinal == 0 {
         return Place::Nothing;
     }

@@ -1,7 +1,7 @@
 -- What engines cite of the tables of letters: a move by a table's rule goes on, passes over no occurrence, and carries nothing (`Moves`, of the window machine).
 -- DELTA1 alone may point back, so of it they cite no more than that it passes over no occurrence.
 -- All of it is shown from the rules alone, never from how a table is filled. Assumes nothing.
-use mathlib.Core.Path.{_≡_, sym, subst}
+use mathlib.Core.Path.{_≡_, sym, ap, subst, _∙_}
 use Prim.Native.Nat.{ℕ, _+_, _-_, _≤_, _<_}
 use native.Mathlib.Omega.{arith}
 use mathlib.Core.Bool.{false}
@@ -49,10 +49,14 @@ pub sunday-stop : (P T : List ℕ) (s : ℕ) → length T ≤ s + length P → s
 unfolding sundayMove
 sunday-stop P T s h = rw (le-ltb (s + length P) (length T) h)
 
+-- where code goes by the entry d that it reads
+pub sunday-next : (P T : List ℕ) (s : ℕ) {d : ℕ} → s + length P < length T → Reads d (sundayEntry P (getD T (s + length P) 0)) 1 (length P + 1) → sundayMove P T s ≡ at (s + d) 0
+sunday-next P T s h r = sunday-on P T s h ∙ ap (λ (n : ℕ). at (s + n) 0) (sym (r .is))
+
 pub sunday-goes : {e : Engine} {P T list₀ list : List ℕ} {total compared : ℕ} (s : ℕ) {d : ℕ} → Progress e P T list₀ (sundayMove P T s) total compared list → s + length P < length T
     → Reads d (sundayEntry P (getD T (s + length P) 0)) 1 (length P + 1) → Progress e P T list₀ (at (s + d) 0) total compared list
 sunday-goes {e} {P} {T} {list₀} {list} {total} {compared} s p h r =
-    subst (λ (n : ℕ). Progress e P T list₀ (at (s + n) 0) total compared list) (sym (r .is)) (rw (sunday-on P T s h) at p)
+    subst (λ x. Progress e P T list₀ x total compared list) (sunday-next P T s h r) p
 
 -- no letter follows the window: the engine has stopped
 pub sunday-over : {e : Engine} {P T list₀ list : List ℕ} {total compared : ℕ} (s : ℕ) → Progress e P T list₀ (sundayMove P T s) total compared list → length T ≤ s + length P

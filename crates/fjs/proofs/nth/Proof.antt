@@ -10,7 +10,6 @@ use lib.ListN.{length, getD}
 use lib.Dec.{leb}
 use borrow.Author.Tests.{eq-eqb, ne-eqb, le-leb, lt-leb, leb-true, leb-false}
 use Rattle.matching.specs.Occurrences.{occurrences, hasNth}
-use Rattle.matching.specs.Received.{received}
 use Rattle.matching.specs.Find.{refusalOf}
 use Rattle.matching.proofs.CaseAnalysis.{by-test}
 use Rattle.matching.proofs.Occurrences.{occurrences-below}
@@ -20,7 +19,7 @@ use Rattle.fjs.specs.declared.Place.the-variants.{Refused, At, Nothing}
 use Rattle.fjs.specs.declared.Tally.{Tally}
 use Rattle.fjs.specs.Fjs.{fjs}
 use Rattle.fjs.specs.Nth.{number, placesMeant, nthOf, nthAnswer, Located}
-use Rattle.fjs.specs.Search.{Searched}
+use Rattle.fjs.specs.Search.{prepared, Searched}
 use Rattle.fjs.proofs.Ready.{ready}
 use Rattle.fjs.proofs.nth.Statement.{statement}
 use Rattle.fjs.proofs.nth.Tie as tie
@@ -48,21 +47,20 @@ unfolding nthOf
 nth-meant positions ordinal =
     by-test (λ t. placesMeant (cond t (At (getD positions (ordinal - 1) 0)) Nothing) ≡ cond t (getD positions (ordinal - 1) 0 ∷ []) []) (hasNth positions ordinal) (λ _. refl) (λ _. refl)
 
-module _ {P T scratch : List ℕ} {ordinal : ℕ} where
-  refused : {number : ℕ} → number ≡ refusalOf fjs P T scratch → (number ≡ 0 → ⊥) → Located P T scratch ordinal (Refused number) scratch
+module _ {P T scratch scratch′ : List ℕ} {ordinal : ℕ} (left : scratch′ ≡ prepared P T scratch) where
+  refused : {number : ℕ} → number ≡ refusalOf fjs P T scratch → (number ≡ 0 → ⊥) → Located P T scratch ordinal (Refused number) scratch′
   unfolding nthAnswer
-  refused {number} is some = let off = ne-eqb (refusalOf fjs P T scratch) 0 (λ z. some (is ∙ z)) in record { answer = rw (off, is); numbered = rw off is; meant = rw off; left = rw off }
+  refused {number} is some = let off = ne-eqb (refusalOf fjs P T scratch) 0 (λ z. some (is ∙ z)) in record { answer = rw (off, is); numbered = rw off is; meant = rw off; left = left }
 
-  located : Accepted fjs P T scratch → {r : Place} {scratch′ : List ℕ} → r ≡ nthOf (occurrences P T) ordinal → scratch′ ≡ received scratch (fjs .tables P)
-      → Located P T scratch ordinal r scratch′
+  located : Accepted fjs P T scratch → {r : Place} → r ≡ nthOf (occurrences P T) ordinal → Located P T scratch ordinal r scratch′
   unfolding nthAnswer
-  located g a t =
+  located g a =
       let on = eq-eqb (refusalOf fjs P T scratch) 0 (g .none) in
       record {
         answer = rw on a;
         numbered = rw on (ap number a ∙ nth-number (occurrences P T) ordinal);
         meant = rw on (ap placesMeant a ∙ nth-meant (occurrences P T) ordinal);
-        left = rw on t;
+        left = left;
       }
 
 -- the search ended with the text, or at that occurrence
@@ -90,86 +88,83 @@ module _ {P T list list′ : List ℕ} {ordinal : ℕ} {r : Tally} (s : Searched
 
 -- ---- the function
 
--- the call, from where it is not refused; where the tables are made, from where the search is done
-abbrev call : tie.Else1 → tie.Start
-call e = e .before .before .before .before .before
+-- the call, from where it is prepared; that place, from where the call is not refused; and that one, from where the search is done
+abbrev call : tie.After-prepare → tie.Start
+call p = p .before .before .before .before .before
 
-abbrev maker : tie.After-search → tie.After-make-tables
-maker s = s .before .before .before .before .before .before
+abbrev tested : tie.Else1 → tie.After-prepare
+tested e = e .before .before .before
 
-allowed : (e : tie.Else1) → let a = call e .args in Accepted fjs (a .pattern .now) (a .text .now) (a .scratch .now)
-allowed e = accepted (e .before .refused .ensures) (e .if1 .left)
+abbrev entered : tie.After-search → tie.Else1
+entered s = s .before .before .before .before
+
+allowed : (e : tie.Else1) → let a = call (tested e) .args in Accepted fjs (a .pattern .now) (a .text .now) (a .scratch .now)
+allowed e = accepted (tested e .prepare .ensures .0) (e .if1 .left)
 
 -- an ordinal is asked for
-asked : (s : tie.After-search) → 1 ≤ call (maker s .before .before) .args .ordinal
+asked : (s : tie.After-search) → 1 ≤ call (tested (entered s)) .args .ordinal
 asked s = omega (arith, s .before .before .before .if2 .left)
 
-add-refused : tie.Need-add-refused
-add-refused c = search needs
-
-add-refused-2 : tie.Need-add-refused-2
-add-refused-2 c = search needs
-
-refused-requires : tie.Need-refused-requires
-refused-requires c κs = search needs
-
-returns : tie.Need-returns
-returns c = refused (c .before .refused .ensures) (c .if1 .taken)
-
-make-tables-requires : tie.Need-make-tables-requires
-make-tables-requires c κs = let l = allowed (c .before) .limits in (l .short, l .room)
+prepare-requires : tie.Need-prepare-requires
+prepare-requires c κs = search needs
 
 same-length : tie.Need-same-length
 same-length c = search needs
 
+returns : tie.Need-returns
+returns c = let p = c .before .before .before .prepare .ensures in refused (p .1) (p .0) (c .if1 .taken)
+
+same-length-2 : tie.Need-same-length-2
+same-length-2 c = search needs
+
 returns-2 : tie.Need-returns-2
 returns-2 c =
-    let t = c .before .before .before in
-    let a = call (t .before .before) .args in
-    located (allowed (t .before .before)) (rw (c .if2 .taken) (sym (nth-before (occurrences (a .pattern .now) (a .text .now))))) (t .make-tables .ensures)
+    let e = c .before in
+    let a = call (tested e) .args in
+    located (tested e .prepare .ensures .1) (allowed e) (rw (c .if2 .taken) (sym (nth-before (occurrences (a .pattern .now) (a .text .now)))))
 
 slice-aggregate-search : tie.Need-slice-aggregate-search
 slice-aggregate-search c = search needs
 
 search-requires : tie.Need-search-requires
-search-requires c κs = let t = c .before .before .before .before .before in ready (allowed (t .before .before)) (t .make-tables .ensures)
-
-same-length-2 : tie.Need-same-length-2
-same-length-2 c = search needs
-
-returns-3 : tie.Need-returns-3
-returns-3 c =
-    let s = c .before .before .before in
-    located (allowed (maker s .before .before)) (none-there (s .search .ensures) (asked s) (c .if3 .taken)) (maker s .make-tables .ensures)
-
-cast-place : tie.Need-cast-place
-cast-place c =
-    let s = c .before .before .before .before in
-    omega (arith, last-small (s .search .ensures) (asked s) (c .before .if3 .left), allowed (maker s .before .before) .limits .small)
+search-requires c κs = let e = c .before .before .before in ready (tested e .prepare .ensures .1) (allowed e)
 
 same-length-3 : tie.Need-same-length-3
 same-length-3 c = search needs
 
+returns-3 : tie.Need-returns-3
+returns-3 c =
+    let s = c .before .before .before in
+    let e = entered s in
+    located (tested e .prepare .ensures .1) (allowed e) (none-there (s .search .ensures) (asked s) (c .if3 .taken))
+
+cast-place : tie.Need-cast-place
+cast-place c =
+    let s = c .before .before .before .before in
+    omega (arith, last-small (s .search .ensures) (asked s) (c .before .if3 .left), allowed (entered s) .limits .small)
+
+same-length-4 : tie.Need-same-length-4
+same-length-4 c = search needs
+
 returns-4 : tie.Need-returns-4
 returns-4 c =
     let s = c .before .before .before .before in
-    located (allowed (maker s .before .before)) (last-there (s .search .ensures) (asked s) (c .before .if3 .left)) (maker s .make-tables .ensures)
+    let e = entered s in
+    located (tested e .prepare .ensures .1) (allowed e) (last-there (s .search .ensures) (asked s) (c .before .if3 .left))
 
 pub nth-spec : {M : Type 1} → statement M
 nth-spec =
     tie.close
     (tie.spec
-    add-refused
-    add-refused-2
-    refused-requires
-    returns
-    make-tables-requires
+    prepare-requires
     same-length
+    returns
+    same-length-2
     returns-2
     slice-aggregate-search
     search-requires
-    same-length-2
+    same-length-3
     returns-3
     cast-place
-    same-length-3
+    same-length-4
     returns-4)
