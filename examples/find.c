@@ -1,13 +1,30 @@
-/* Finds a refrain in a few lines of verse by every engine, and prints each engine's line: its name, the total, the comparisons and the places. */
+/* Finds a refrain in a few lines of verse by every engine, and prints each engine's line: its name, the total, the comparisons and the places; then the
+ * total of moves by FJS, and the first of them. */
 #include <stdio.h>
 #include <string.h>
 
 #include "libretto.h"
 
+static uint16_t scratch[LIBRETTO_SCRATCH_MAX];
+
+/* The first six moves of FJS's window: the old start, the new start and the rule. The total is full although the list is shorter. */
+static void print_moves(const char *phrase, const char *text)
+{
+    static const char *const rules[] = {"", "Sunday", "KMP"};
+    uint32_t list[8], moves[6 * LIBRETTO_MOVE_ENTRIES];
+    size_t room = sizeof moves / sizeof *moves;
+    libretto_moves_finding found = libretto_find_moves((const uint8_t *)phrase, strlen(phrase), (const uint8_t *)text, strlen(text),
+                                                       scratch, LIBRETTO_SCRATCH_MAX, list, sizeof list / sizeof *list, moves, room);
+
+    printf("moves %u", (unsigned)found.moves);
+    for (size_t i = 0; i < found.moves * LIBRETTO_MOVE_ENTRIES && i < room; i += LIBRETTO_MOVE_ENTRIES)
+        printf(" %u-%u %s", (unsigned)moves[i], (unsigned)moves[i + 1], rules[moves[i + 2]]);
+    printf("\n");
+}
+
 int main(void)
 {
     static const char *const names[] = {"naive", "kmp", "horspool", "sunday", "fjs", "double", "bm", "improved"};
-    static uint16_t scratch[LIBRETTO_SCRATCH_MAX];
     const char *phrase = "lala";
     const char *text = "la lala, tralalala,\nla la lala";
     uint32_t list[8];
@@ -24,6 +41,8 @@ int main(void)
             printf(" %u", (unsigned)list[i]);
         printf("\n");
     }
+
+    print_moves(phrase, text);
 
     /* A scratch one entry short is refused, and nothing is written. */
     libretto_finding refused = libretto_find(LIBRETTO_FJS, (const uint8_t *)phrase, 4, (const uint8_t *)text, strlen(text),

@@ -89,6 +89,31 @@ typedef struct {
 libretto_finding libretto_find(uint32_t method, const uint8_t *phrase, size_t phrase_len, const uint8_t *text, size_t text_len,
                                uint16_t *scratch, size_t scratch_len, uint32_t *list, size_t list_len);
 
+/* The rule that moved the window of FJS on: by the text letter after it, or by the borders of the phrase. */
+enum libretto_rule {
+    LIBRETTO_RULE_SUNDAY = 1,
+    LIBRETTO_RULE_KMP = 2
+};
+
+/* The entries of a move: the old start, the new start, and the rule. */
+#define LIBRETTO_MOVE_ENTRIES ((size_t)3)
+
+/* What a find with moves gives back: what a find does, and the total of moves; a refused call gives 0 for these three. */
+typedef struct {
+    uint32_t refusal, total, comparisons, moves;
+} libretto_moves_finding;
+
+/* Finds as libretto_find does by LIBRETTO_FJS, with the same refusals, 2 to 5, and lists the moves of the window too: three entries each, the old
+ * start and the new one, counted from 0, and the rule. Each is from a start of its own at which the phrase fits the text, so there are at most
+ * text_len - phrase_len + 1, and none where the phrase is longer than the text.
+ *
+ * Afterwards moves holds the first whole moves that fit, and its entries past those keep their values, also one or two at its end that hold no whole
+ * move; the total of moves is full also where the list is shorter, and a short list is no refusal. The last move may pass the text's end. Where the
+ * last letter differs and no letter follows the window, the engine stops, and that is no move. A refused call leaves all as before. Scratch, list and
+ * moves must not overlap each other or the phrase or the text. */
+libretto_moves_finding libretto_find_moves(const uint8_t *phrase, size_t phrase_len, const uint8_t *text, size_t text_len, uint16_t *scratch,
+                                           size_t scratch_len, uint32_t *list, size_t list_len, uint32_t *moves, size_t moves_len);
+
 /* What a letter of ISO 8859-1 folds to: 32 is added to 0x41-0x5A and to 0xC0-0xDE except 0xD7, and every other byte stays. */
 uint8_t libretto_fold(uint8_t letter);
 

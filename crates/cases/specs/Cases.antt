@@ -1,4 +1,4 @@
--- The starred cases of document 01, "Refrains to try", and the cases that document 02, (ii) and (x), names: one table, and what it means for a row to hold.
+-- The starred cases of document 01, "Refrains to try", the cases that document 02, (ii) and (x), names, and the moves of an example run: one table, and what it means for a row to hold.
 use Prim.Native.Nat.{ℕ, suc, _-_}
 use mathlib.Core.Bool.{Bool, true, false, cond, _&&_}
 use mathlib.Core.List.{List, [], _∷_, _++_}
@@ -18,6 +18,8 @@ use Rattle.kmp.specs.Kmp.{kmp}
 use Rattle.horspool.specs.Horspool.{horspool}
 use Rattle.sunday.specs.Sunday.{sunday}
 use Rattle.fjs.specs.Fjs.{window, fjs}
+use Rattle.fjs.specs.Moves as fjs-moves
+use Rattle.fjs.specs.Moves.{movesIn, numbers}
 use Rattle.double_window.specs.DoubleWindow.{doubleWindow}
 use Rattle.boyer_moore.specs.BoyerMoore as bm
 use Rattle.boyer_moore.specs.BoyerMoore.{boyerMoore}
@@ -44,6 +46,8 @@ pub data Case : Type 0 where
   maxShifts : List ℕ → List ℕ → Case
   -- a find by an engine's steps: the pattern, the text, the positions and the comparisons
   find : Engine → List ℕ → List ℕ → List ℕ → ℕ → Case
+  -- the moves of FJS for a pattern and a text, three numbers each
+  windowMoves : List ℕ → List ℕ → List ℕ → Case
   -- a letter, and what it folds to
   fold : ℕ → ℕ → Case
   -- a book's bytes, and the cues that it reads as
@@ -83,7 +87,7 @@ comesTo o refusal number entries = eqb (o .resolution .refusal) refusal && eqb (
 
 -- a row holds: the definitions give its answer
 unfoldable pub holds : Case → Bool
-unfolding same tabulate lastIn gap widest widestAt kmpEntry maxShift shift given movesFrom occurrences runFrom positionsIn compared window bm.window improved.window folded readsAs readBook bookBytes comesTo outcome
+unfolding same tabulate lastIn gap widest widestAt kmpEntry maxShift shift given movesFrom occurrences runFrom positionsIn compared window movesIn numbers bm.window improved.window folded readsAs readBook bookBytes comesTo outcome
 holds (kmpEntries P entries moves) = same (kmpTable P) entries && same (movesFrom 0 (kmpTable P)) moves
 holds (sundayEntries P letters entries others) = same (sundayTable P) (tabulate 256 (given letters entries others))
 holds (horspoolEntries P letters entries others) = same (horspoolTable P) (tabulate 256 (given letters entries others))
@@ -91,6 +95,7 @@ holds (delta2Entries P entries) = same (delta2Table P) entries
 holds (gaps P entries width letter) = same (tabulate (length P) (gap P)) entries && eqb (md P) width && eqb (mdp P) letter
 holds (maxShifts P entries) = same (maxShiftTable P) entries
 holds (find e P T positions comparisons) = same (occurrences P T) positions && same (positionsIn (run (e .steps) P T)) positions && eqb (compared e P T) comparisons
+holds (windowMoves P T entries) = same (numbers (fjs-moves.moves P T)) entries
 holds (fold letter small) = eqb (folded letter) small
 holds (book bytes cs) = readsAs (readBook bytes) cs && same (bookBytes cs) bytes
 holds (resolve bytes T refusal number entries) = comesTo (outcome folded (record { text = T; copy = length T; phrase = 1024; scratch = 1281; entries = 3 }) (readBook bytes)) refusal number entries
@@ -129,6 +134,10 @@ abaaca = aba ++ wordA ++ wordC ++ wordA
 -- three of its gaps are the widest
 abbrev abab : List ℕ
 abab = ab ++ ab
+
+-- the text of source document 001, Figures 1 and 2
+abbrev abababcababbbca : List ℕ
+abababcababbbca = abab ++ ab ++ wordC ++ abab ++ wordB ++ wordB ++ wordC ++ wordA
 
 -- the letters with entries of their own
 abbrev abc : List ℕ
@@ -173,9 +182,14 @@ cases =
     ∷ gaps abaaca (1 ∷ 2 ∷ 2 ∷ 1 ∷ 5 ∷ 2 ∷ []) 5 5
     ∷ gaps abab (1 ∷ 2 ∷ 2 ∷ 2 ∷ []) 2 4
     ∷ maxShifts abaaca (5 ∷ 5 ∷ 5 ∷ 5 ∷ 5 ∷ 6 ∷ 5 ∷ [])
-    ∷ find improvedFjs abaaca (abab ++ abc ++ abab ++ wordB ++ wordB ++ wordC ++ wordA) [] 11
+    ∷ find improvedFjs abaaca abababcababbbca [] 11
     ∷ find improvedFjs aba (ab ++ aba) (0 ∷ 2 ∷ []) 6
     ∷ find improvedFjs ab wordA [] 0
+    ∷ find fjs abaaca abababcababbbca [] 13
+    ∷ windowMoves abaaca abababcababbbca (0 ∷ 2 ∷ 1 ∷ 2 ∷ 4 ∷ 2 ∷ 4 ∷ 7 ∷ 2 ∷ 7 ∷ 9 ∷ 1 ∷ 9 ∷ 12 ∷ 2 ∷ [])
+    ∷ windowMoves aba aba (0 ∷ 2 ∷ 2 ∷ [])
+    ∷ windowMoves wordB aaa (0 ∷ 2 ∷ 1 ∷ [])
+    ∷ windowMoves ab wordA []
     ∷ fold 0xC9 0xE9
     ∷ fold 0xD7 0xD7
     ∷ fold 0xDF 0xDF

@@ -1,7 +1,7 @@
 -- Demand 3: for every pattern and text with 1 ≤ m ≤ n, of any lengths, FJS's steps compare at most 3n - 2m pairs (`bound`). Each window pays for its looks at 3 a position:
 -- a window at s that carries q letters has looks + q ≤ m, and looks + 3s + q ≤ 3s' + q' where the next is at s' and carries q' (`Pays` of `matching`). The first holds since
 -- no carried letter is looked at, the second since a Sunday entry is at least 1 and b[j] is below j. Assumes nothing.
-use Prim.Native.Nat.{ℕ, zero, suc, _+_, _-_, _*_, _≤_, _<_, min}
+use Prim.Native.Nat.{ℕ, zero, suc, _+_, _-_, _≤_, _<_, min}
 use native.Mathlib.Omega.{arith}
 use mathlib.Core.List.{List}
 use lib.ListN.{length, getD}
@@ -16,7 +16,7 @@ use Rattle.letter_tables.specs.Moves.{sundayMove}
 use Rattle.letter_tables.proofs.BadCharacter.{sundayEntry-pos}
 use Rattle.letter_tables.proofs.Moves.{sunday-on, sunday-stop}
 use Rattle.border_tables.proofs.Moves.{kmp-paid, kmp-pays}
-use Rattle.fjs.specs.Fjs.{window, fjs}
+use Rattle.fjs.specs.Fjs.{window, fjs, Bounded}
 use Rattle.fjs.proofs.Sound.{window-end, window-carried, window-fresh, sound}
 
 module _ (P T : List ℕ) (s : ℕ) (inside : s + length P ≤ length T) (some : 1 ≤ length P) where
@@ -43,5 +43,5 @@ module _ (P T : List ℕ) (s : ℕ) (inside : s + length P ≤ length T) (some :
   pays (suc q) h = rw (window-carried P T s (suc q) (omega arith)) (kmp-pays 2 P T s (suc q) (omega arith) h)
 
 -- at most 3n - 2m comparisons
-pub bound : (P T : List ℕ) → 1 ≤ length P → length P ≤ length T → compared fjs P T ≤ 3 * length T - 2 * length P
-bound P T h k = pays-bound fjs (sound P T h) 2 (λ s q inside c. pays P T s inside h q (c .part)) k
+pub bound : (P T : List ℕ) → 1 ≤ length P → Bounded P T (compared fjs P T)
+bound P T h k = omega (arith, pays-bound fjs (sound P T h) 2 (λ s q inside c. pays P T s inside h q (c .part)) k)

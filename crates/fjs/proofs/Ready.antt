@@ -1,9 +1,10 @@
--- What `find` and `nth` bring to the search that they share, from a call that is not refused; the entries that the search reads; and what `find` makes of what it found.
+-- What `find`, `find_moves` and `nth` bring to the search that they share, from a call that is not refused; the entries that the search reads; and what the finds make of what it found.
 -- Assumes nothing.
 use mathlib.Core.Path.{_≡_, refl, _∙_}
 use mathlib.Core.Logic.{inl}
-use Prim.Native.Nat.{ℕ, _+_, _-_, _*_, _≤_}
+use Prim.Native.Nat.{ℕ, _+_, _≤_}
 use native.Mathlib.Omega.{arith}
+use mathlib.Core.Bool.{Bool}
 use mathlib.Core.List.{List}
 use lib.ListN.{length, drop}
 use borrow.Author.Tests.{eq-eqb}
@@ -17,7 +18,7 @@ use Rattle.tables.proofs.Tables.{first-entries, second-entries, both-received}
 use Rattle.letter_tables.specs.BadCharacter.{sundayEntry}
 use Rattle.border_tables.specs.Kmp.{kmpEntry}
 use Rattle.fjs.specs.declared.Tally.{Tally}
-use Rattle.fjs.specs.Fjs.{fjs}
+use Rattle.fjs.specs.Fjs.{fjs, Bounded}
 use Rattle.fjs.specs.Search.{prepared, Ready, Searched}
 use Rattle.fjs.proofs.Sound.{sound}
 use Rattle.fjs.proofs.Bound.{bound}
@@ -54,7 +55,7 @@ module _ {P T scratch : List ℕ} (r : Ready P T scratch) where
   limits = record { some = r .some; short = r .short; small = r .small; room = kmps .room }
 
 -- a search without a limit, in a call that is not refused: its numbers fit 32 bits, the find keeps its promise, and demand 3's bound is that of the steps
-module _ {P T scratch list list′ : List ℕ} {r : Tally} (a : Accepted fjs P T scratch) (s : Searched P T list 0 r list′) where
+module _ {P T scratch list list′ noted noted′ : List ℕ} {noting : Bool} {r : Tally} (a : Accepted fjs P T scratch) (s : Searched P T list 0 noted noting r list′ noted′) where
   pub total-fits : r .total ≤ 32769
   total-fits = omega (arith, s .total (inl refl), occurrences-few P T, a .limits .small)
 
@@ -64,5 +65,5 @@ module _ {P T scratch list list′ : List ℕ} {r : Tally} (a : Accepted fjs P T
   pub found-all : {scratch′ : List ℕ} → scratch′ ≡ prepared P T scratch → Found fjs P T scratch list (record { refusal = 0; total = r .total; comparisons = r .comparisons }) scratch′ list′
   found-all left = found-accepted (a .none) (s .total (inl refl)) (s .comparisons (inl refl)) (made left a) (s .listed (inl refl))
 
-  pub found-bounded : length P ≤ length T → r .comparisons ≤ 3 * length T - 2 * length P
+  pub found-bounded : Bounded P T (r .comparisons)
   found-bounded h = omega (arith, s .comparisons (inl refl), bound P T (a .limits .some) h)

@@ -3,21 +3,22 @@ use mathlib.Core.Path.{_≡_, refl, sym, ap, subst, _∙_}
 use mathlib.Core.Logic.{_⊎_, inl, inr, ⊎-elim}
 use Prim.Native.Nat.{ℕ, zero, suc, _+_, _-_, _≤_, _<_, min}
 use native.Mathlib.Omega.{arith}
-use mathlib.Core.Bool.{true}
-use mathlib.Core.List.{List}
+use mathlib.Core.Bool.{Bool, true}
+use mathlib.Core.List.{List, []}
 use lib.ListN.{length, getD, set}
 use borrow.Author.Tests.{eq-eqb, ne-eqb}
 use Rattle.matching.specs.Occurrences.{occurrences}
 use Rattle.matching.specs.Letters.{reach}
-use Rattle.matching.specs.Machine.{at}
+use Rattle.matching.specs.Machine.{State, stop, at, runFrom}
 use Rattle.matching.proofs.CaseAnalysis.{at-same}
 use Rattle.matching.proofs.Letters.{reach-equal, reach-done, Upward, up-stops, looks-part, looks-all}
 use Rattle.matching.proofs.Progress.{Progress, Over, same-list, over-total, over-compared, over-listed, reported-as, missed-as, reported-more, reported-place, hit-up, miss-up}
 use Rattle.letter_tables.specs.Moves.{sundayMove}
 use Rattle.border_tables.specs.Moves.{kmpMove}
-use Rattle.fjs.specs.Fjs.{window, fjs}
-use Rattle.fjs.specs.Search.{Searched}
-use Rattle.fjs.proofs.Sound.{window-end, window-carried, window-fresh}
+use Rattle.fjs.specs.Fjs.{sunday, kmp, step, window, fjs}
+use Rattle.fjs.specs.Search.{putMove, Searched}
+use Rattle.fjs.proofs.Sound.{step-end, step-fresh, step-carried, window-end, window-carried, window-fresh}
+use Rattle.fjs.proofs.Moves.{Noted, noted-stop, noted-more, all-counted, all-kept}
 
 module _ {P T list₀ : List ℕ} {s q total compared : ℕ} {list : List ℕ} (p : Progress fjs P T list₀ (at s q) total compared list) (inside : s + length P ≤ length T) where
   -- nothing is carried, so the state is one that carries nothing
@@ -28,6 +29,18 @@ module _ {P T list₀ : List ℕ} {s q total compared : ℕ} {list : List ℕ} (
   pub end-differs : q ≡ 0 → (getD P (length P - 1) 0 ≡ getD T (s + (length P - 1)) 0 → ⊥) → Progress fjs P T list₀ (sundayMove P T s) total (compared + 1) list
   end-differs z differs = missed-as (at-none z) inside (window-end P T s differs) refl refl
 
+  end-next : q ≡ 0 → (getD P (length P - 1) 0 ≡ getD T (s + (length P - 1)) 0 → ⊥) → window P T s q .next ≡ sundayMove P T s
+  end-next z differs = rw z (ap (λ v. v .next) (window-end P T s differs))
+
+  pub end-noted : {s′ q′ count : ℕ} {noted₀ noted : List ℕ} → q ≡ 0 → (getD P (length P - 1) 0 ≡ getD T (s + (length P - 1)) 0 → ⊥) → sundayMove P T s ≡ at s′ q′ → Noted P T noted₀ (at s q) count noted
+      → Noted P T noted₀ (at s′ q′) (count + 1) (putMove noted count s s′ 1)
+  end-noted z differs goes n = noted-more {rule = sunday} p inside n (end-next z differs ∙ goes) (rw z (ap (λ x. x .rule) (step-end P T s differs)))
+
+  -- or the engine's stop, where no letter follows the window: no move
+  pub end-stops : {count : ℕ} {noted₀ noted : List ℕ} → q ≡ 0 → (getD P (length P - 1) 0 ≡ getD T (s + (length P - 1)) 0 → ⊥) → sundayMove P T s ≡ stop → Noted P T noted₀ (at s q) count noted
+      → Noted P T noted₀ stop count noted
+  end-stops z differs goes n = noted-stop p inside n (end-next z differs ∙ goes)
+
   -- the comparing left to right begins: nothing is carried, the last letter was looked at and is equal, and letters up to m - 1 are left; or letters are carried, and those up to
   -- m are left. The comparisons are now c
   abbrev pub Begun : ℕ → ℕ → Type 0
@@ -36,6 +49,20 @@ module _ {P T list₀ : List ℕ} {s q total compared : ℕ} {list : List ℕ} (
   pub begun-le : {until c : ℕ} → Begun until c → (until ≤ length P) × ((q ≤ until) × (c ≤ compared + 1))
   begun-le g = ⊎-elim (λ f. (omega (arith, f .1 .1 .0), (omega (arith, f .0), omega (arith, f .1 .1 .1)))) (λ f. (omega (arith, f .1 .0), (omega (arith, f .1 .0, p .carried .part), omega (arith, f .1 .1)))) g
 
+  -- the window then moves by KMP's rule, by as many letters as are equal
+  begun-step : {until c : ℕ} → Begun until c → (window P T s q .next ≡ kmpMove P s (reach P T s q)) × (step P T s q .rule ≡ kmp)
+  begun-step g =
+      ⊎-elim
+      (λ f.
+      rw (f .0)
+      (ap (λ v. v .next) (window-fresh P T s (p .sound .some) inside (f .1 .0)), ap (λ x. x .rule) (step-fresh P T s (f .1 .0))))
+      (λ f. (ap (λ v. v .next) (window-carried P T s q (f .0)), ap (λ x. x .rule) (step-carried P T s q (f .0))))
+      g
+
+  pub begun-noted : {until c r s′ q′ count : ℕ} {noted₀ noted : List ℕ} → Begun until c → reach P T s q ≡ r → kmpMove P s r ≡ at s′ q′ → Noted P T noted₀ (at s q) count noted
+      → Noted P T noted₀ (at s′ q′) (count + 1) (putMove noted count s s′ 2)
+  begun-noted g e goes n = let b = begun-step g in noted-more p inside n (b .0 ∙ ap (kmpMove P s) e ∙ goes) (b .1)
+
   -- and has passed letter k
   module _ {until c k : ℕ} (g : Begun until c) (u : Upward P T s q until k) where
     some : 1 ≤ length P
@@ -43,7 +70,7 @@ module _ {P T list₀ : List ℕ} {s q total compared : ℕ} {list : List ℕ} (
 
     -- letter k + 1 is not equal
     module _ (k< : k < until) (differs : getD P k 0 ≡ getD T (s + k) 0 → ⊥) where
-      stops : reach P T s q ≡ k
+      pub stops : reach P T s q ≡ k
       stops = let le = begun-le g in sym (up-stops u inside (omega arith) differs)
 
       pub miss : {c′ : ℕ} → c′ ≡ c + (k - q) + 1 → Progress fjs P T list₀ (kmpMove P s k) total c′ list
@@ -60,7 +87,7 @@ module _ {P T list₀ : List ℕ} {s q total compared : ℕ} {list : List ℕ} (
 
     -- every letter is equal
     module _ (all : until ≤ k) where
-      ends : reach P T s q ≡ length P
+      pub ends : reach P T s q ≡ length P
       ends =
           let k≡ : k ≡ until = omega (arith, u .upto) in
           sym (u .same)
@@ -110,30 +137,38 @@ under-start (suc limit) = inr (omega arith)
 pub under-more : {limit total : ℕ} → Under limit total → (total + 1 ≡ limit → ⊥) → Under limit (total + 1)
 under-more u n = ⊎-elim (λ z. inl z) (λ h. inr (omega (arith, n))) u
 
--- it ended with the text
-pub searched-all : {P T list₀ list : List ℕ} {limit total looked last : ℕ} → Over fjs P T list₀ total looked list → Under limit total
-    → Searched P T list₀ limit (record { total = total; comparisons = looked; last = last }) list
-searched-all {P} {T} {list₀} {list} {limit} {total} o u =
+-- it ended with the text: nothing of the run is left at the state x
+pub searched-all : {P T list₀ list noted₀ noted : List ℕ} {noting : Bool} {x : State} {limit total looked last count : ℕ} → Over fjs P T list₀ total looked list
+    → length noted ≡ length noted₀ → (noting ≡ true → Noted P T noted₀ x count noted) → runFrom window P T x ≡ [] → count ≤ length T + 1 → Under limit total
+    → Searched P T list₀ limit noted₀ noting (record { total = total; comparisons = looked; last = last; moves = count }) list noted
+searched-all {P} {T} {limit = limit} o long n ended few u =
     let short : 1 ≤ limit → limit ≤ length (occurrences P T) → ⊥ = λ h k. ⊎-elim (λ z. omega arith) (λ l. omega (arith, over-total o)) u in
     record {
-      long = same-list (o .progress);
+      long = (same-list (o .progress), long);
+      few = few;
       total = λ _. over-total o;
       comparisons = λ _. over-compared o;
       listed = λ _. over-listed o;
+      moved = λ on _. all-counted (n on) ended;
+      kept = λ on _. all-kept (n on) ended;
       reached = λ h k. absurd (short h k);
       last = λ h k. absurd (short h k);
     }
 
 -- it ended at the occurrence that was wanted
-pub searched-one : {P T list₀ list : List ℕ} {limit total looked last : ℕ} → length list ≡ length list₀ → total + 1 ≡ limit → total < length (occurrences P T) → getD (occurrences P T) total 0 ≡ last
-    → Searched P T list₀ limit (record { total = total + 1; comparisons = looked; last = last }) list
-searched-one {P} {T} {list₀} {list} {limit} {total} long e more place =
+pub searched-one : {P T list₀ list noted₀ noted : List ℕ} {noting : Bool} {limit total looked last count : ℕ} → (length list ≡ length list₀) × (length noted ≡ length noted₀) → count ≤ length T + 1
+    → total + 1 ≡ limit → total < length (occurrences P T) → getD (occurrences P T) total 0 ≡ last
+    → Searched P T list₀ limit noted₀ noting (record { total = total + 1; comparisons = looked; last = last; moves = count }) list noted
+searched-one {P} {T} {limit = limit} {total = total} long few e more place =
     let full : Under limit (length (occurrences P T)) → ⊥ = λ u. ⊎-elim (λ z. omega arith) (λ l. omega arith) u in
     record {
       long = long;
+      few = few;
       total = λ u. absurd (full u);
       comparisons = λ u. absurd (full u);
       listed = λ u. absurd (full u);
+      moved = λ _ u. absurd (full u);
+      kept = λ _ u. absurd (full u);
       reached = λ h k. e;
       last = λ h k. sym place ∙ ap (λ (i : ℕ). getD (occurrences P T) i 0) (omega arith);
     }

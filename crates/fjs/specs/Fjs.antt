@@ -1,6 +1,6 @@
 -- The Franek-Jennings-Smyth engine's steps (source document 001, Algorithm 3, as document 01, "FJS", words it). Carrying q letters is the listing's j = q + 1; b[j] of 0 and
 -- of 1 both carry nothing. The window starts at s and ends at letter s + m.
-use Prim.Native.Nat.{ℕ, zero, suc, _+_, _-_}
+use Prim.Native.Nat.{ℕ, zero, suc, _+_, _-_, _*_, _≤_}
 use mathlib.Core.Bool.{Bool, false, cond}
 use mathlib.Core.List.{List, _++_}
 use lib.ListN.{length, getD, take, drop}
@@ -62,3 +62,7 @@ window P T s q = step P T s q .window
 -- 256 Sunday entries, then m + 1 KMP entries
 abbrev pub fjs : Engine
 fjs = record { entries = λ m. 256 + (m + 1); tables = λ P. sundayTable P ++ kmpTable P; steps = window }
+
+-- demand 3: at most 3n - 2m comparisons, where the pattern is no longer than the text
+abbrev pub Bounded : List ℕ → List ℕ → ℕ → Type 0
+Bounded P T comparisons = length P ≤ length T → comparisons ≤ 3 * length T - 2 * length P

@@ -1,15 +1,18 @@
 // The Franek-Jennings-Smyth engine (source document 001, Algorithm 3): Sunday's move while the last letter differs, KMP's move once letters are equal.
-// It depends on `matching`, and on `tables`, `letter_tables` and `border_tables` for the entries. Beside `find` it offers `nth`, which stops at the occurrence that is wanted.
+// It depends on `matching`, and on `tables`, `letter_tables` and `border_tables` for the entries. Beside `find` it offers `nth`, which stops at the occurrence that is wanted, and
+// `find_moves`, which also lists by which rule the window moved.
 // Demand 3 is carried by proofs/Bound.antt (at most 3n - 2m comparisons) and proofs/Aba.antt (aba in n letters a costs 3n - 6).
 use matching::Finding;
 ghost use mathlib.Core.Path.{_≡_};
-ghost use Prim.Native.Nat.{_+_, _-_, _*_, _≤_};
+ghost use mathlib.Core.Bool.{cond};
+ghost use Prim.Native.Nat.{_+_, _≤_};
 ghost use lib.ListN.{length};
 ghost use Rattle.matching.specs.Received.{received};
 ghost use Rattle.matching.specs.Find.{refusalOf, Found};
-ghost use Rattle.fjs.specs.Fjs.{fjs};
+ghost use Rattle.fjs.specs.Fjs.{fjs, Bounded};
+ghost use Rattle.fjs.specs.Moves.{finding, Listed};
 ghost use Rattle.fjs.specs.Nth.{Located};
-ghost use Rattle.fjs.specs.Search.{prepared, Ready, Searched};
+ghost use Rattle.fjs.specs.Search.{prepared, Ready, putMove, Searched};
 
 // Where the occurrence of an ordinal stands: the refusal of the call, a position, or that there is no such occurrence.
 pub enum Place {
@@ -18,11 +21,21 @@ pub enum Place {
     Nothing,
 }
 
-// What a search found: how many occurrences, the comparisons made, and where the last of these occurrences stands.
+// What a find with a list of moves gives back: what a find does, and the full total of moves.
+#[repr(C)]
+pub struct MovesFinding {
+    pub refusal: u32,
+    pub total: u32,
+    pub comparisons: u32,
+    pub moves: u32,
+}
+
+// What a search found: how many occurrences, the comparisons made, where the last of these occurrences stands, and how many moves.
 struct Tally {
     total: usize,
     comparisons: usize,
     last: usize,
+    moves: usize,
 }
 
 // Makes both tables: the scratch's first 256 entries are lent to the Sunday maker and the part from 256 on to the KMP maker.
@@ -50,10 +63,35 @@ fn prepare(pattern: &[u8], text: &[u8], scratch: &mut [u16]) -> u32
     refusal
 }
 
-// Finds occurrences up to the limit, or all where it is 0. The window starts at s, and its first q letters are carried.
-fn search(pattern: &[u8], text: &[u8], scratch: &[u16], list: &mut [u32], limit: usize) -> Tally
+// Notes a move, where moves are noted: its three numbers at its index, whole or not at all. Gives the number of moves after it, which stays where none are noted.
+fn note(noting: bool, moves: &mut [u32], index: usize, old: usize, new: usize, rule: u32) -> usize
+    requires { ⌜ (index ≤ 32769) × ((old ≤ 32769) × (new ≤ 32769)) ⌝ }
+    ensures { λ r. ⌜ (r ≡ cond noting (index + 1) index) × (now (moves .exit) ≡ cond noting (putMove (now (moves .entry)) index old new rule) (now (moves .entry))) ⌝ }
+{
+    if noting {
+        let at = 3 * index;
+        if at + 3 <= moves.len() {
+            moves[at] = old as u32;
+            moves[at + 1] = new as u32;
+            moves[at + 2] = rule;
+        }
+        return index + 1;
+    }
+    index
+}
+
+// Finds occurrences up to the limit, or all where it is 0, and notes the moves where they are asked for. The window starts at s, and its first q letters are carried.
+fn search(
+    pattern: &[u8],
+    text: &[u8],
+    scratch: &[u16],
+    list: &mut [u32],
+    limit: usize,
+    moves: &mut [u32],
+    noting: bool,
+) -> Tally
     requires { ⌜ Ready (now pattern) (now text) (now scratch) ⌝ }
-    ensures { λ r. ⌜ Searched (now (pattern .entry)) (now (text .entry)) (now (list .entry)) limit r (now (list .exit)) ⌝ }
+    ensures { λ r. ⌜ Searched (now (pattern .entry)) (now (text .entry)) (now (list .entry)) limit (now (moves .entry)) noting r (now (list .exit)) (now (moves .exit)) ⌝ }
 {
     let m = pattern.len();
     let n = text.len();
@@ -61,6 +99,7 @@ fn search(pattern: &[u8], text: &[u8], scratch: &[u16], list: &mut [u32], limit:
     let mut total = 0;
     let mut compared = 0;
     let mut last = 0;
+    let mut moved = 0;
     let mut s = 0;
     let mut q = 0;
     while s + m <= n {
@@ -71,7 +110,9 @@ fn search(pattern: &[u8], text: &[u8], scratch: &[u16], list: &mut [u32], limit:
                 if n <= s + m {
                     break;
                 }
-                s += scratch[text[s + m] as usize] as usize;
+                let next = s + scratch[text[s + m] as usize] as usize;
+                moved = note(noting, moves, moved, s, next, 1);
+                s = next;
                 continue;
             }
             until = end;
@@ -96,7 +137,9 @@ fn search(pattern: &[u8], text: &[u8], scratch: &[u16], list: &mut [u32], limit:
             }
         }
         let b = scratch[256 + k] as usize;
-        s += k + 1 - b;
+        let next = s + (k + 1 - b);
+        moved = note(noting, moves, moved, s, next, 2);
+        s = next;
         q = 0;
         if 0 < b {
             q = b - 1;
@@ -106,13 +149,14 @@ fn search(pattern: &[u8], text: &[u8], scratch: &[u16], list: &mut [u32], limit:
         total,
         comparisons: compared,
         last,
+        moves: moved,
     }
 }
 
 // Finds the pattern in the text; the scratch holds 256 Sunday entries and then the KMP entries b[1] to b[m + 1] afterwards.
 pub fn find(pattern: &[u8], text: &[u8], scratch: &mut [u16], list: &mut [u32]) -> Finding
     ensures { λ r. ⌜ Found fjs (now (pattern .entry)) (now (text .entry)) (now (scratch .entry)) (now (list .entry)) r (now (scratch .exit)) (now (list .exit)) ⌝ }
-    ensures bounded { λ r. ⌜ (length (now (pattern .entry)) ≤ length (now (text .entry)) → r .comparisons ≤ 3 * length (now (text .entry)) - 2 * length (now (pattern .entry))) ⌝ }
+    ensures bounded { λ r. ⌜ Bounded (now (pattern .entry)) (now (text .entry)) (r .comparisons) ⌝ }
 {
     let refusal = prepare(pattern, text, scratch);
     if refusal != 0 {
@@ -122,13 +166,47 @@ pub fn find(pattern: &[u8], text: &[u8], scratch: &mut [u16], list: &mut [u32]) 
             comparisons: 0,
         };
     }
-    let r = search(pattern, text, scratch, list, 0);
+    let mut none = [0; 0];
+    let r = search(pattern, text, scratch, list, 0, &mut none, false);
     let found = r.total as u32;
     let looks = r.comparisons as u32;
     Finding {
         refusal: 0,
         total: found,
         comparisons: looks,
+    }
+}
+
+// Finds the pattern in the text as `find` does, and lists the moves: old start, new start, rule (1 Sunday, 2 KMP), the first whole moves that fit.
+pub fn find_moves(
+    pattern: &[u8],
+    text: &[u8],
+    scratch: &mut [u16],
+    list: &mut [u32],
+    moves: &mut [u32],
+) -> MovesFinding
+    ensures { λ r. ⌜ Found fjs (now (pattern .entry)) (now (text .entry)) (now (scratch .entry)) (now (list .entry)) (finding r) (now (scratch .exit)) (now (list .exit)) ⌝ }
+    ensures bounded { λ r. ⌜ Bounded (now (pattern .entry)) (now (text .entry)) (r .comparisons) ⌝ }
+    ensures moved { λ r. ⌜ Listed (now (pattern .entry)) (now (text .entry)) (now (scratch .entry)) (now (moves .entry)) r (now (moves .exit)) ⌝ }
+{
+    let refusal = prepare(pattern, text, scratch);
+    if refusal != 0 {
+        return MovesFinding {
+            refusal,
+            total: 0,
+            comparisons: 0,
+            moves: 0,
+        };
+    }
+    let r = search(pattern, text, scratch, list, 0, moves, true);
+    let found = r.total as u32;
+    let looks = r.comparisons as u32;
+    let moved = r.moves as u32;
+    MovesFinding {
+        refusal: 0,
+        total: found,
+        comparisons: looks,
+        moves: moved,
     }
 }
 
@@ -144,7 +222,16 @@ pub fn nth(pattern: &[u8], text: &[u8], scratch: &mut [u16], ordinal: u32) -> Pl
         return Place::Nothing;
     }
     let mut none = [0; 0];
-    let r = search(pattern, text, scratch, &mut none, ordinal as usize);
+    let mut unmoved = [0; 0];
+    let r = search(
+        pattern,
+        text,
+        scratch,
+        &mut none,
+        ordinal as usize,
+        &mut unmoved,
+        false,
+    );
     if r.total < ordinal as usize {
         return Place::Nothing;
     }

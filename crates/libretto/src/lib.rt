@@ -1,17 +1,21 @@
 // This crate is the C interface: each function is exported under the name that include/libretto.h gives it, and carries the exact contract of what it wraps.
 // An enum does not pass to C: the definitions of specs/Plain.antt say which numbers pass in its place. `rt staticlib libretto` makes the archive that C and Rust link.
-// It depends on `find`, `fold`, `cue_fields`, `cues`, `cue_book`, `cue_writer` and `resolver` for what it exports, and on `matching` for a finding.
+// It depends on `find`, `fjs`, `fold`, `cue_fields`, `cues`, `cue_book`, `cue_writer` and `resolver` for what it exports, and on `matching` for a finding.
 use cue_book::Answer;
 use cue_book::Part;
 use cue_fields::Due;
 use cue_fields::FieldAnswer;
 use cues::CueAnswer;
+use fjs::MovesFinding;
 use matching::Finding;
 ghost use mathlib.Core.Path.{_≡_};
 ghost use mathlib.Core.List.{map};
 ghost use Prim.Native.Nat.{min};
 ghost use lib.ListN.{length};
 ghost use Rattle.matching.specs.Received.{received};
+ghost use Rattle.matching.specs.Find.{Found};
+ghost use Rattle.fjs.specs.Fjs.{fjs, Bounded};
+ghost use Rattle.fjs.specs.Moves.{finding, Listed};
 ghost use Rattle.find.specs.Find.{Answered};
 ghost use Rattle.fold.specs.Fold.{folded};
 ghost use Rattle.cues.specs.Cue.{cueWith};
@@ -54,6 +58,22 @@ pub extern "C" fn libretto_find(
     ensures { λ r. ⌜ Answered method (now (phrase .entry)) (now (text .entry)) (now (scratch .entry)) (now (list .entry)) r (now (scratch .exit)) (now (list .exit)) ⌝ }
 {
     find::find(method, phrase, text, scratch, list)
+}
+
+// A find by FJS that also lists the moves. The finding passes as a struct of four 32-bit numbers.
+#[no_mangle]
+pub extern "C" fn libretto_find_moves(
+    phrase: &[u8],
+    text: &[u8],
+    scratch: &mut [u16],
+    list: &mut [u32],
+    moves: &mut [u32],
+) -> MovesFinding
+    ensures { λ r. ⌜ Found fjs (now (phrase .entry)) (now (text .entry)) (now (scratch .entry)) (now (list .entry)) (finding r) (now (scratch .exit)) (now (list .exit)) ⌝ }
+    ensures bounded { λ r. ⌜ Bounded (now (phrase .entry)) (now (text .entry)) (r .comparisons) ⌝ }
+    ensures moved { λ r. ⌜ Listed (now (phrase .entry)) (now (text .entry)) (now (scratch .entry)) (now (moves .entry)) r (now (moves .exit)) ⌝ }
+{
+    fjs::find_moves(phrase, text, scratch, list, moves)
 }
 
 // What a letter of ISO 8859-1 folds to.

@@ -1,6 +1,6 @@
 //! The C interface of the library, and the only unsafe code of this crate: one declaration and one call for each function.
 
-use crate::{RawAnswer, RawCue, RawField, RawFinding, RawPart, ResolverMemory};
+use crate::{RawAnswer, RawCue, RawField, RawFinding, RawMovesFinding, RawPart, ResolverMemory};
 
 extern "C" {
     fn libretto_find(
@@ -14,6 +14,19 @@ extern "C" {
         list: *mut u32,
         list_len: usize,
     ) -> RawFinding;
+
+    fn libretto_find_moves(
+        phrase: *const u8,
+        phrase_len: usize,
+        text: *const u8,
+        text_len: usize,
+        scratch: *mut u16,
+        scratch_len: usize,
+        list: *mut u32,
+        list_len: usize,
+        moves: *mut u32,
+        moves_len: usize,
+    ) -> RawMovesFinding;
 
     fn libretto_fold(letter: u8) -> u8;
 
@@ -70,6 +83,26 @@ pub(crate) fn find(method: u32, phrase: &[u8], text: &[u8], scratch: &mut [u16],
             scratch.len(),
             list.as_mut_ptr(),
             list.len(),
+        )
+    }
+}
+
+/// Calls `libretto_find_moves` on slices.
+pub(crate) fn find_moves(phrase: &[u8], text: &[u8], scratch: &mut [u16], list: &mut [u32], moves: &mut [u32]) -> RawMovesFinding {
+    // SAFETY: as for `find`; the list of moves is for reading and writing too, and its exclusive borrow keeps it apart from the other four.
+    // `RawMovesFinding` has the layout of the C structure (`repr(C)`, four `u32`).
+    unsafe {
+        libretto_find_moves(
+            phrase.as_ptr(),
+            phrase.len(),
+            text.as_ptr(),
+            text.len(),
+            scratch.as_mut_ptr(),
+            scratch.len(),
+            list.as_mut_ptr(),
+            list.len(),
+            moves.as_mut_ptr(),
+            moves.len(),
         )
     }
 }

@@ -1,5 +1,5 @@
 //! Document 01, "What a find call takes and leaves" and "What a refused call hands back", rows 1 to 5; methods 6 and 7 by document 02, (ii) and (x),
-//! and the scratch of method 5 by (v).
+//! and the scratch of method 5 by (v); the list of moves by (xi).
 
 use crate::{boyer_moore, double_window, fjs, horspool, improved_fjs, kmp, naive, sunday};
 
@@ -69,4 +69,22 @@ pub fn find(method: u32, phrase: &[u8], text: &[u8], scratch: &mut [u16], list: 
         *entry = place;
     }
     (0, run.places.len() as u32, run.comparisons)
+}
+
+/// Document 02, (xi): refusal number, total and comparisons as a find by method 4 gives them, then the total of moves; and what scratch and list hold
+/// after that find, and what the list of moves holds afterwards.
+pub fn find_moves(phrase: &[u8], text: &[u8], scratch: &mut [u16], list: &mut [u32], moves: &mut [u32]) -> (u32, u32, u32, u32) {
+    let (refusal, total, comparisons) = find(4, phrase, text, scratch, list);
+    if refusal != 0 {
+        return (refusal, 0, 0, 0);
+    }
+
+    // The same steps once more, for their moves, with the tables that the find has left. A phrase longer than the text has no window, so no move.
+    let (_, made) = fjs::run_and_moves(phrase, text, &scratch[..256], &scratch[256..256 + phrase.len() + 1]);
+
+    // The first whole moves that fit are kept; entries past those written keep their values, also one or two at the end that hold no whole move.
+    for (entries, numbers) in moves.chunks_exact_mut(3).zip(&made) {
+        entries.copy_from_slice(numbers);
+    }
+    (0, total, comparisons, made.len() as u32)
 }

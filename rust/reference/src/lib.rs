@@ -1,11 +1,11 @@
 //! The finding, the cue book and the cue resolver of document 01, as document 02 changes them, written again from their words alone: simple, slow, and
 //! independent of the library that it is compared with.
 //!
-//! [`find`] is the find call; [`finder_output`] is what the finder program prints. Each engine has a file of its own, with its table's rule and its
-//! steps. Tables are made by brute force from their rules; [`kmp_table`] and its like make one by itself, and [`widest_gap`] is what the improved
-//! engine's table needs beside the KMP entries. [`read_book`], [`title`] and [`write_cue`] are the calls of the cue book; [`cues`], [`read_cue`] and
-//! [`read_field`] are what they are made of. [`resolve`] is the resolver, which searches by brute force and shares nothing with the engines;
-//! [`endings`] and [`line_and_column`] are its line rule.
+//! [`find`] is the find call; [`find_moves`] is the find by method 4 that also lists which rule moved the window. [`finder_output`] is what the
+//! finder program prints. Each engine has a file of its own, with its table's rule and its steps. Tables are made by brute force from their rules;
+//! [`kmp_table`] and its like make one by itself, and [`widest_gap`] is what the improved engine's table needs beside the KMP entries. [`read_book`],
+//! [`title`] and [`write_cue`] are the calls of the cue book; [`cues`], [`read_cue`] and [`read_field`] are what they are made of. [`resolve`] is the
+//! resolver, which searches by brute force and shares nothing with the engines; [`endings`] and [`line_and_column`] are its line rule.
 
 #![forbid(unsafe_code)]
 
@@ -28,7 +28,7 @@ mod tables;
 mod worked_examples;
 
 pub use cue_book::{cues, read_book, read_cue, read_due, read_field, title, write_cue, Cue, Field};
-pub use find::find;
+pub use find::{find, find_moves};
 pub use finder::finder_output;
 pub use fold::{fold, fold_text};
 pub use resolver::{endings, line_and_column, resolve};

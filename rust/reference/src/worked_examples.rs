@@ -1,9 +1,9 @@
-//! The worked examples of document 01, "The finder program" and "Refrains to try", and of document 02, (ii), (v) and (x), and the tests that books,
-//! cues and lent memory meet.
+//! The worked examples of document 01, "The finder program" and "Refrains to try", and of document 02, (ii), (v), (x) and (xi), and the tests that
+//! books, cues and lent memory meet.
 
 use crate::{boyer_moore, double_window, fjs, horspool, improved_fjs, kmp, sunday};
 use crate::{cues, read_book, read_cue, read_due, read_field, title, write_cue, Cue, Field};
-use crate::{endings, find, finder_output, fold, fold_text, line_and_column, max_shift_table, resolve, widest_gap};
+use crate::{endings, find, find_moves, finder_output, fold, fold_text, line_and_column, max_shift_table, resolve, widest_gap};
 
 /// Total, comparisons and places by a method, with memory enough.
 fn found(method: u32, phrase: &[u8], text: &[u8]) -> (u32, u32, Vec<u32>) {
@@ -307,13 +307,18 @@ fn lent_table_of_kmp_and_max_shift() {
     assert_eq!(made(&[b'a'; 65_536], 140_000), vec![7; 140_000]);
 }
 
-/// The windows of method 7, each by its first letter, counted from 1, and the looks at it. What is done at a window does not depend on later letters
-/// of the text, and each window costs a look. So a text that ends where the window ends costs the window's looks more than a text that is a letter
-/// shorter.
-fn attempts(phrase: &[u8], text: &[u8]) -> Vec<(usize, u32)> {
-    let looks = |n: usize| found(7, phrase, &text[..n]).1;
+/// The windows of method 4 or 7, each by its first letter, counted from 1, and the looks at it. What is done at a window does not depend on later
+/// letters of the text, and each window costs a look. So a text that ends where the window ends costs the window's looks more than a text that is a
+/// letter shorter.
+fn attempts_by(method: u32, phrase: &[u8], text: &[u8]) -> Vec<(usize, u32)> {
+    let looks = |n: usize| found(method, phrase, &text[..n]).1;
     let added = (phrase.len()..=text.len()).map(|n| (n - phrase.len() + 1, looks(n) - looks(n - 1)));
     added.filter(|&(_, looks)| looks > 0).collect()
+}
+
+/// The windows of method 7.
+fn attempts(phrase: &[u8], text: &[u8]) -> Vec<(usize, u32)> {
+    attempts_by(7, phrase, text)
 }
 
 /// The text is the row of letters in Figure 2; its caption and Example 2 have one b less, which does not fit the attempts in words. The starts are
@@ -479,6 +484,220 @@ fn figure_of_document_001() {
     let run = fjs::run(phrase, text, &sunday::table(phrase), &kmp::table(phrase));
     assert!(run.places.is_empty());
     assert_eq!(run.comparisons, 1 + 5 + 2 + 1 + 4);
+}
+
+/// The rules of a move by their numbers.
+const SUNDAY: u32 = 1;
+const KMP: u32 = 2;
+
+/// What method 4 gives, as `found` gives it, and its moves, with memory enough, since no start has two moves.
+fn moved(phrase: &[u8], text: &[u8]) -> ((u32, u32, Vec<u32>), Vec<[u32; 3]>) {
+    let (mut scratch, mut list, mut moves) = (vec![7; 1281], vec![7; text.len()], vec![7; 3 * text.len()]);
+    let (refusal, total, comparisons, made) = find_moves(phrase, text, &mut scratch, &mut list, &mut moves);
+    assert_eq!(refusal, 0);
+    list.truncate(total as usize);
+    moves.truncate(3 * made as usize);
+    assert_eq!(moves.len(), 3 * made as usize);
+    ((total, comparisons, list), moves.chunks(3).map(|numbers| numbers.try_into().unwrap()).collect())
+}
+
+/// The moves of Figure 1 of source document 001, by its attempts in words. The text is the figure's row of 15 letters; its caption and the sentence
+/// before the attempts each print one letter less, while attempt 5 names T[15]. In attempts 1, 2, 4 and 5 the phrase's last letter lies over T[6],
+/// T[8], T[13] and T[15], and in attempt 3 its first letter over T[5], so that the starts from 0 are 0, 2, 4, 7 and 9.
+const MOVES_OF_FIGURE_1: [[u32; 3]; 5] = [[0, 2, SUNDAY], [2, 4, KMP], [4, 7, KMP], [7, 9, SUNDAY], [9, 12, KMP]];
+
+#[test]
+fn moves_of_figure_1() {
+    // Attempt 1: Sunday_Shift[c] is 2. Attempt 2: KMP_Shift[4] is 2. Attempt 3: KMP_Shift[3] is 3. Attempt 4: Sunday_Shift[c] is 2.
+    // Attempt 5: letter 3 is unequal and the search ends, by a move of KMP_Shift[3], which is 3; a window from 12 would end at letter 18 of 15.
+    assert_eq!(moved(b"abaaca", b"abababcababbbca"), ((0, 13, vec![]), MOVES_OF_FIGURE_1.to_vec()));
+}
+
+/// The last letter is unequal and the window ends where the text ends.
+#[test]
+fn a_sunday_stop_is_no_move() {
+    assert_eq!(moved(b"aba", b"abb"), ((0, 1, vec![]), vec![]));
+    assert_eq!(moved(b"b", b"a"), ((0, 1, vec![]), vec![]));
+    // Sunday's move by 2, since a is absent from the phrase, and then the stop.
+    assert_eq!(moved(b"b", b"aaa"), ((0, 2, vec![]), vec![[0, 2, SUNDAY]]));
+    // An occurrence of ab, 2 looks, and KMP's move by 2, with nothing carried; then the stop.
+    assert_eq!(moved(b"ab", b"abaa"), ((1, 3, vec![0]), vec![[0, 2, KMP]]));
+}
+
+/// With a letter after the window, the move is listed, also where it passes the text's end. The Sunday entries of aba are a 1, b 2, others 4.
+#[test]
+fn a_last_sunday_move_is_listed() {
+    assert_eq!(moved(b"aba", b"abbb"), ((0, 1, vec![]), vec![[0, 2, SUNDAY]]));
+    // The letter is absent, and the new start is the text's length.
+    assert_eq!(moved(b"aba", b"abbx"), ((0, 1, vec![]), vec![[0, 4, SUNDAY]]));
+    assert_eq!(moved(b"b", b"aa"), ((0, 1, vec![]), vec![[0, 2, SUNDAY]]));
+    // From 0 Sunday's move by 1 for a, 1 look; from 1 the last letter is equal and letter 1 is not, 2 looks; from 2 Sunday's by 2 for b, 1 look.
+    assert_eq!(moved(b"aba", b"abbabb"), ((0, 4, vec![]), vec![[0, 1, SUNDAY], [1, 2, KMP], [2, 4, SUNDAY]]));
+}
+
+/// After an occurrence the move is KMP's, by m less the longest proper border; at the text's end it passes the end.
+#[test]
+fn moves_after_an_occurrence() {
+    assert_eq!(moved(b"aba", b"aba"), ((1, 3, vec![0]), vec![[0, 2, KMP]]));
+    assert_eq!(moved(b"aba", b"ababa"), ((2, 5, vec![0, 2]), vec![[0, 2, KMP], [2, 4, KMP]]));
+    assert_eq!(moved(b"aa", b"aaa"), ((2, 3, vec![0, 1]), vec![[0, 1, KMP], [1, 2, KMP]]));
+    assert_eq!(moved(b"a", b"aaa"), ((3, 3, vec![0, 1, 2]), vec![[0, 1, KMP], [1, 2, KMP], [2, 3, KMP]]));
+    // Border 0: the new start is the text's length.
+    assert_eq!(moved(b"ab", b"ab"), ((1, 2, vec![0]), vec![[0, 2, KMP]]));
+}
+
+/// The KMP entries of aba are 0 1 0 2.
+#[test]
+fn moves_after_a_mismatch() {
+    // In each window the last letter and letter 1 are equal, and letter 2 is not: KMP's move by 2 − 1.
+    assert_eq!(moved(b"aba", b"aaa"), ((0, 3, vec![]), vec![[0, 1, KMP]]));
+    assert_eq!(moved(b"aba", b"aaaaa"), ((0, 9, vec![]), vec![[0, 1, KMP], [1, 2, KMP], [2, 3, KMP]]));
+    // From 0 the last letter is equal and letter 1 is not: KMP's move by 1 − 0, 2 looks. From 1 the last letter is not: Sunday's by 1 for a, 1 look.
+    // From 2 an occurrence, 3 looks: KMP's by 4 − 2.
+    assert_eq!(moved(b"aba", b"bbaba"), ((1, 6, vec![2]), vec![[0, 1, KMP], [1, 2, SUNDAY], [2, 4, KMP]]));
+    // From 0 Sunday's move by 4 for x, 1 look, and from 4 at once another, by 1 for a, 1 look. From 5 the last letter is equal and letter 1 is not,
+    // 2 looks. From 6 Sunday's by 1 for a, 1 look. From 7 an occurrence, 3 looks.
+    let moves = vec![[0, 4, SUNDAY], [4, 5, SUNDAY], [5, 6, KMP], [6, 7, SUNDAY], [7, 9, KMP]];
+    assert_eq!(moved(b"aba", b"xxxxxxxaba"), ((1, 8, vec![7]), moves));
+    // From 0 an occurrence, 3 looks, after which a is carried. From 2 the last letter is unequal, but it is not tested first: letter 2 is equal and
+    // letter 3 is not, 2 looks, and the move is KMP's by 3 − 0. From 5 an occurrence, 3 looks.
+    assert_eq!(moved(b"aba", b"ababbaba"), ((2, 8, vec![0, 5]), vec![[0, 2, KMP], [2, 5, KMP], [5, 7, KMP]]));
+}
+
+#[test]
+fn moves_at_the_limits() {
+    // Each place of the longest text is an occurrence and has its move.
+    let moves: Vec<[u32; 3]> = (0..32_768).map(|start| [start, start + 1, KMP]).collect();
+    assert_eq!(moved(b"a", &[b'a'; 32_768]), ((32_768, 32_768, (0..32_768).collect()), moves));
+    // The longest phrase in the longest text, with no letter of it: Sunday's moves by 1,025. The last window is the one from 30 · 1,025 = 30,750,
+    // which ends at letter 31,774; its move leads to 31,775, and that window would end at letter 32,799.
+    let moves: Vec<[u32; 3]> = (0..=30).map(|k| [1025 * k, 1025 * (k + 1), SUNDAY]).collect();
+    assert_eq!(moved(&[b'a'; 1024], &[b'b'; 32_768]), ((0, 31, vec![]), moves));
+}
+
+/// Tables, places and moves in lent memory of each length, with entries that were not 0 before.
+#[test]
+fn lent_memory_of_a_find_with_moves() {
+    let mut tables = [vec![4; 256], vec![0, 1, 0, 2]].concat();
+    (tables[b'a' as usize], tables[b'b' as usize]) = (1, 2);
+    for length in [260, 261, 1281] {
+        for places in 0..=4 {
+            let (mut scratch, mut list, mut moves) = (vec![9; length], vec![8; places], [7; 8]);
+            assert_eq!(find_moves(b"aba", b"ababa", &mut scratch, &mut list, &mut moves), (0, 2, 5, 2));
+            assert_eq!(scratch, [tables.clone(), vec![9; length - 260]].concat());
+            assert_eq!(list, [0, 2, 8, 8][..places]);
+            assert_eq!(moves, [0, 2, KMP, 2, 4, KMP, 7, 7]);
+            // A phrase longer than the text has no moves, and leaves the tables all the same.
+            let (mut scratch, mut list, mut moves) = (vec![9; length], vec![8; places], [7; 8]);
+            assert_eq!(find_moves(b"aba", b"ab", &mut scratch, &mut list, &mut moves), (0, 0, 0, 0));
+            assert_eq!(scratch, [tables.clone(), vec![9; length - 260]].concat());
+            assert_eq!((list, moves), (vec![8; places], [7; 8]));
+        }
+    }
+    assert_eq!(moved(b"b", b""), ((0, 0, vec![]), vec![]));
+    assert_eq!(moved(&[b'a'; 1024], &[b'a'; 1023]), ((0, 0, vec![]), vec![]));
+}
+
+/// The five moves of Figure 1, in lists of no entry up to two moves more, whose entries were all different before.
+#[test]
+fn lengths_of_the_list_of_moves() {
+    let numbers = MOVES_OF_FIGURE_1.concat();
+    for length in 0..=21 {
+        let before: Vec<u32> = (100..).take(length).collect();
+        let mut moves = before.clone();
+        assert_eq!(find_moves(b"abaaca", b"abababcababbbca", &mut [9; 263], &mut [], &mut moves), (0, 0, 13, 5));
+        let written = match length {
+            0..=2 => 0,
+            3..=5 => 3,
+            6..=8 => 6,
+            9..=11 => 9,
+            12..=14 => 12,
+            _ => 15,
+        };
+        assert_eq!(moves, [&numbers[..written], &before[written..]].concat(), "length {length}");
+    }
+}
+
+/// The refusals of method 4 in their order, each met by a call that would also meet the later ones. All lent memory stays as it was.
+#[test]
+fn refused_finds_with_moves() {
+    let (long_phrase, long_text) = ([b'a'; 1025], [b'a'; 32_769]);
+    let refused = |phrase: &[u8], text: &[u8], length: usize| {
+        let (mut scratch, mut list, mut moves) = (vec![9; length], [8; 3], [7; 7]);
+        let answer = find_moves(phrase, text, &mut scratch, &mut list, &mut moves);
+        assert_eq!((scratch, list, moves), (vec![9; length], [8; 3], [7; 7]));
+        answer
+    };
+    assert_eq!(refused(b"", &long_text, 0), (2, 0, 0, 0));
+    assert_eq!(refused(&long_phrase, &long_text, 0), (3, 0, 0, 0));
+    assert_eq!(refused(&long_phrase[..1024], &long_text, 0), (4, 0, 0, 0));
+    assert_eq!(refused(&long_phrase[..1024], &long_text[..32_768], 1280), (5, 0, 0, 0));
+    assert_eq!(refused(b"aba", b"ababa", 259), (5, 0, 0, 0));
+    assert_eq!(refused(b"aba", b"ab", 259), (5, 0, 0, 0));
+}
+
+/// The moves of FJS told window by window, without the tables and without i, j and ip.
+fn moves_by_windows(phrase: &[u8], text: &[u8]) -> Vec<[u32; 3]> {
+    let m = phrase.len();
+    let mut moves = Vec::new();
+    // The window's start, and how many letters at its front are known to be equal.
+    let (mut start, mut carried) = (0, 0);
+    while start + m <= text.len() {
+        let window = &text[start..start + m];
+        let (by, rule) = if carried == 0 && window[m - 1] != phrase[m - 1] {
+            // Sunday: the smallest move that brings an equal letter of the phrase over the next letter of the text; past it if there is none.
+            let Some(&next) = text.get(start + m) else { break };
+            ((1..=m).find(|&by| phrase[m - by] == next).unwrap_or(m + 1), SUNDAY)
+        } else {
+            // KMP: the smallest move after which the letters that were equal are equal again, and the letter that was unequal, if there was one, has
+            // another letter of the phrase over it, or none.
+            let equal = (0..m).take_while(|&k| phrase[k] == window[k]).count();
+            let equal_again = |by: usize| (by..equal).all(|k| phrase[k - by] == phrase[k]);
+            let another = |by: usize| equal == m || by > equal || phrase[equal - by] != phrase[equal];
+            let by = (1..=equal + 1).find(|&by| equal_again(by) && another(by)).unwrap();
+            carried = equal.saturating_sub(by);
+            (by, KMP)
+        };
+        moves.push([start as u32, (start + by) as u32, rule]);
+        start += by;
+    }
+    moves
+}
+
+#[test]
+fn moves_of_all_short_phrases_and_texts() {
+    let texts: Vec<Vec<u8>> = (0..=8).flat_map(words).collect();
+    for phrase in (1..=4).flat_map(words) {
+        for text in &texts {
+            let (find, moves) = moved(&phrase, text);
+            let case = format!("{phrase:?} in {text:?}: {moves:?}");
+            assert_eq!(find, found(4, &phrase, text), "{case}");
+
+            // The moves chain, each goes on, and each starts from a window within the text.
+            let mut start = 0;
+            for &[old, new, rule] in &moves {
+                assert!(old == start && new > old && [SUNDAY, KMP].contains(&rule), "{case}");
+                assert!(old as usize + phrase.len() <= text.len(), "{case}");
+                start = new;
+            }
+            // After the last move, the window passes the end or is the one that ends where the text ends, with its last letter unequal.
+            let end = start as usize + phrase.len();
+            assert!(end > text.len() || end == text.len() && phrase.last() != text.last(), "{case}");
+
+            // Every occurrence, by the definition, is the old start of a KMP move.
+            for place in (0..text.len()).filter(|&place| text[place..].starts_with(&phrase)) {
+                assert!(moves.iter().any(|&[old, _, rule]| (old, rule) == (place as u32, KMP)), "{case}");
+            }
+
+            // The windows by the moves are those by the looks.
+            let starts = [0].into_iter().chain(moves.iter().map(|&[_, new, _]| new as usize));
+            let within: Vec<usize> = starts.filter(|start| start + phrase.len() <= text.len()).collect();
+            let looked_at: Vec<usize> = attempts_by(4, &phrase, text).iter().map(|&(letter, _)| letter - 1).collect();
+            assert_eq!(within, looked_at, "{case}");
+
+            assert_eq!(moves, moves_by_windows(&phrase, text), "{case}");
+        }
+    }
 }
 
 /// The starred book: la, 2, No.

@@ -16,7 +16,7 @@ pub mod verses;
 pub mod words;
 
 pub use cue_book::{compare_book, compare_cue, compare_field, compare_write};
-pub use find::{compare, needed, METHODS};
+pub use find::{compare, compare_moves, needed, METHODS};
 pub use fold::compare_fold;
 pub use resolver::{compare_resolve, Lengths};
 pub use words::Random;

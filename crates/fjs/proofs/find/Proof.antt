@@ -15,14 +15,14 @@ abbrev tested : tie.Else1 → tie.After-prepare
 tested e = e .before .before .before
 
 abbrev entered : tie.After-search → tie.Else1
-entered s = s .before .before .before
+entered s = s .before .before .before .before
 
 allowed : (e : tie.Else1) → let a = call (tested e) .args in Accepted fjs (a .pattern .now) (a .text .now) (a .scratch .now)
 allowed e = accepted (tested e .prepare .ensures .0) (e .if1 .left)
 
 -- where the search is done, from where the call ends
 abbrev searched : tie.After-struct-known → tie.After-search
-searched c = c .before .before .before
+searched c = c .before .before .before .before
 
 prepare-requires : tie.Need-prepare-requires
 prepare-requires c κs = search needs
@@ -33,8 +33,11 @@ same-length c = search needs
 returns : tie.Need-returns
 returns c = let p = c .before .before .before .prepare .ensures in (found-none (p .1) (p .0) (c .if1 .taken), λ h. omega arith)
 
+slice-aggregate-search : tie.Need-slice-aggregate-search
+slice-aggregate-search c = search needs
+
 search-requires : tie.Need-search-requires
-search-requires c κs = let e = c .before .before in ready (tested e .prepare .ensures .1) (allowed e)
+search-requires c κs = let e = c .before .before .before in ready (tested e .prepare .ensures .1) (allowed e)
 
 cast-found : tie.Need-cast-found
 cast-found c = let s = searched c in omega (arith, total-fits (allowed (entered s)) (s .search .ensures))
@@ -46,7 +49,7 @@ same-length-2 : tie.Need-same-length-2
 same-length-2 c = search needs
 
 same-length-3 : tie.Need-same-length-3
-same-length-3 c = searched (c .before) .search .ensures .long
+same-length-3 c = searched (c .before) .search .ensures .long .0
 
 returns-2 : tie.Need-returns-2
 returns-2 c =
@@ -61,6 +64,7 @@ find-spec =
     prepare-requires
     same-length
     returns
+    slice-aggregate-search
     search-requires
     cast-found
     cast-looks

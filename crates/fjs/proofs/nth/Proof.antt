@@ -4,7 +4,7 @@ use mathlib.Core.Path.{_≡_, refl, sym, ap, _∙_}
 use mathlib.Core.Logic.{inr}
 use Prim.Native.Nat.{ℕ, _-_, _≤_, _<_}
 use native.Mathlib.Omega.{arith}
-use mathlib.Core.Bool.{cond}
+use mathlib.Core.Bool.{Bool, cond}
 use mathlib.Core.List.{List, [], _∷_}
 use lib.ListN.{length, getD}
 use lib.Dec.{leb}
@@ -64,7 +64,7 @@ module _ {P T scratch scratch′ : List ℕ} {ordinal : ℕ} (left : scratch′ 
       }
 
 -- the search ended with the text, or at that occurrence
-module _ {P T list list′ : List ℕ} {ordinal : ℕ} {r : Tally} (s : Searched P T list ordinal r list′) (some : 1 ≤ ordinal) where
+module _ {P T list list′ noted noted′ : List ℕ} {ordinal : ℕ} {noting : Bool} {r : Tally} (s : Searched P T list ordinal noted noting r list′ noted′) (some : 1 ≤ ordinal) where
   fewer : r .total < ordinal → length (occurrences P T) < ordinal
   fewer h =
       by-test (λ _. length (occurrences P T) < ordinal) (leb ordinal (length (occurrences P T)))
@@ -96,14 +96,14 @@ abbrev tested : tie.Else1 → tie.After-prepare
 tested e = e .before .before .before
 
 abbrev entered : tie.After-search → tie.Else1
-entered s = s .before .before .before .before
+entered s = s .before .before .before .before .before
 
 allowed : (e : tie.Else1) → let a = call (tested e) .args in Accepted fjs (a .pattern .now) (a .text .now) (a .scratch .now)
 allowed e = accepted (tested e .prepare .ensures .0) (e .if1 .left)
 
 -- an ordinal is asked for
 asked : (s : tie.After-search) → 1 ≤ call (tested (entered s)) .args .ordinal
-asked s = omega (arith, s .before .before .before .if2 .left)
+asked s = omega (arith, s .before .before .before .before .if2 .left)
 
 prepare-requires : tie.Need-prepare-requires
 prepare-requires c κs = search needs
@@ -126,21 +126,24 @@ returns-2 c =
 slice-aggregate-search : tie.Need-slice-aggregate-search
 slice-aggregate-search c = search needs
 
+slice-aggregate-search-2 : tie.Need-slice-aggregate-search-2
+slice-aggregate-search-2 c = search needs
+
 search-requires : tie.Need-search-requires
-search-requires c κs = let e = c .before .before .before in ready (tested e .prepare .ensures .1) (allowed e)
+search-requires c κs = let e = c .before .before .before .before in ready (tested e .prepare .ensures .1) (allowed e)
 
 same-length-3 : tie.Need-same-length-3
 same-length-3 c = search needs
 
 returns-3 : tie.Need-returns-3
 returns-3 c =
-    let s = c .before .before .before in
+    let s = c .before .before .before .before in
     let e = entered s in
     located (tested e .prepare .ensures .1) (allowed e) (none-there (s .search .ensures) (asked s) (c .if3 .taken))
 
 cast-place : tie.Need-cast-place
 cast-place c =
-    let s = c .before .before .before .before in
+    let s = c .before .before .before .before .before in
     omega (arith, last-small (s .search .ensures) (asked s) (c .before .if3 .left), allowed (entered s) .limits .small)
 
 same-length-4 : tie.Need-same-length-4
@@ -148,7 +151,7 @@ same-length-4 c = search needs
 
 returns-4 : tie.Need-returns-4
 returns-4 c =
-    let s = c .before .before .before .before in
+    let s = c .before .before .before .before .before in
     let e = entered s in
     located (tested e .prepare .ensures .1) (allowed e) (last-there (s .search .ensures) (asked s) (c .before .if3 .left))
 
@@ -162,6 +165,7 @@ nth-spec =
     same-length-2
     returns-2
     slice-aggregate-search
+    slice-aggregate-search-2
     search-requires
     same-length-3
     returns-3

@@ -1,6 +1,6 @@
 -- `fjs::prepare` meets its contract: a call that is not refused has both tables made. Assumes nothing.
 use borrow.Author.Needs.{needs}
-use mathlib.Core.Path.{sym, _∙_}
+use mathlib.Core.Path.{_∙_}
 use borrow.Author.Tests.{eq-eqb, ne-eqb}
 use Rattle.matching.specs.Find.{refusalOf}
 use Rattle.matching.proofs.Progress.{Accepted, accepted}
