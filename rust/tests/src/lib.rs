@@ -14,6 +14,7 @@ pub mod programs;
 mod resolver;
 pub mod verses;
 pub mod words;
+pub mod xml;
 
 pub use cue_book::{compare_book, compare_cue, compare_field, compare_write};
 pub use find::{compare, compare_moves, needed, METHODS};
