@@ -14,7 +14,7 @@ const BUILDS: [(&str, &[&str]); 3] = [
 ];
 
 /// The files of `c/` and the function that each defines.
-const TWINS: [(&str, &str); 10] = [
+const TWINS: [(&str, &str); 11] = [
     ("naive", "twin_naive"),
     ("kmp", "twin_kmp"),
     ("horspool", "twin_horspool"),
@@ -23,6 +23,7 @@ const TWINS: [(&str, &str); 10] = [
     ("double_window", "twin_double_window"),
     ("boyer_moore", "twin_boyer_moore"),
     ("improved_fjs", "twin_improved_fjs"),
+    ("fjs_moves", "twin_fjs_moves"),
     ("memmem", "twin_memmem"),
     ("cue_book", "twin_read_book"),
 ];

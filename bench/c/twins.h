@@ -32,6 +32,16 @@ struct twin_finding twin_boyer_moore(const uint8_t *phrase, size_t m, const uint
 struct twin_finding twin_improved_fjs(const uint8_t *phrase, size_t m, const uint8_t *text, size_t n, uint16_t *restrict scratch,
                                       uint32_t *restrict list, size_t list_len);
 
+/* What a find gives, and the total of moves. */
+struct twin_moves_finding {
+    struct twin_finding found;
+    uint32_t moves;
+};
+
+/* FJS with a list of its moves: old start, new start and rule, the first whole ones that fit. */
+struct twin_moves_finding twin_fjs_moves(const uint8_t *phrase, size_t m, const uint8_t *text, size_t n, uint16_t *restrict scratch,
+                                         uint32_t *restrict list, size_t list_len, uint32_t *restrict moves, size_t moves_len);
+
 /* Every place of the phrase by glibc's memmem, called again one letter after each place; it counts no comparisons and gives the total. */
 uint32_t twin_memmem(const uint8_t *phrase, size_t m, const uint8_t *text, size_t n, uint32_t *restrict list, size_t list_len);
 

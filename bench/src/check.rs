@@ -34,6 +34,7 @@ impl Checker {
                     self.check_engine(&case.name, method, phrase, text);
                 }
                 self.check_memmem(&case.name, phrase, text);
+                self.check_moves(&case.name, phrase, text);
             }
         }
     }
@@ -67,6 +68,19 @@ impl Checker {
         let no_more = self.library.list[written..] == self.dirt.list[written..];
         assert!(listed && no_more, "{name}, memmem: the list differs for the phrase {:?}", String::from_utf8_lossy(phrase));
         self.checked += 1;
+    }
+
+    fn check_moves(&mut self, name: &str, phrase: &[u8], text: &[u8]) {
+        self.library.clone_from(&self.dirt);
+        let raw = libretto::find_moves_raw(phrase, text, &mut self.library.scratch, &mut self.library.list, &mut self.library.moves);
+        let given = (raw.refusal, raw.total, raw.comparisons);
+        for (index, build) in BUILDS.iter().enumerate() {
+            self.other.clone_from(&self.dirt);
+            let twin = build.find_moves(phrase, text, &mut self.other);
+            let moves = raw.moves == twin.moves && self.library.moves == self.other.moves;
+            assert!(moves, "{name}, moves, C build {index}: the moves differ for the phrase {:?}", String::from_utf8_lossy(phrase));
+            self.agree(&format!("{name}, moves, C build {index}"), phrase, given, (0, twin.found.total, twin.found.comparisons));
+        }
     }
 
     fn agree(&mut self, name: &str, phrase: &[u8], library: (u32, u32, u32), other: (u32, u32, u32)) {

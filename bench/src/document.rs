@@ -30,6 +30,7 @@ pub fn page(results: &Results, date: &str, processor: &str, seconds: u64) -> Str
         by_kind(results),
         others(results),
         tables(results),
+        moves(results),
         books(results),
         growth(results),
         how_measured(results),
@@ -190,6 +191,22 @@ fn tables(results: &Results) -> String {
         "## Tables alone\n\n\
          A find in an empty text fills the tables and compares nothing; here it is over the C twin's same call, with the library's time in brackets. \
          The naive engine has no tables, so its column is the price of a call.\n\n{}",
+        table.markdown()
+    )
+}
+
+fn moves(results: &Results) -> String {
+    let over_twin = |class: &ClassResult| class.times.moves.library / class.times.moves.twin;
+    let over_plain = |class: &ClassResult| class.times.moves.library / class.times.moves.plain;
+    let mut table = Table::new(["a find with a list of moves", "geometric mean", "worst class", "its ratio"]);
+    for (name, ratio) in [("over the same in C", &over_twin as &dyn Fn(&ClassResult) -> f64), ("over a find by method 4", &over_plain)] {
+        let worst = results.classes.iter().max_by(|a, b| ratio(a).total_cmp(&ratio(b))).expect("there are classes");
+        let mean = geometric_mean(results.classes.iter().map(ratio));
+        table.row([name.to_string(), format!("{mean:.2}"), worst.name.clone(), format!("{:.2}", ratio(worst))]);
+    }
+    format!(
+        "## With a list of moves\n\n\
+         FJS with a list that has room for all moves, in all classes, the library as linked and the best build of C.\n\n{}",
         table.markdown()
     )
 }

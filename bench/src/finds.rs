@@ -5,7 +5,7 @@ use crate::check::Checker;
 use crate::clock::{rounds, Side};
 use crate::lent::Lent;
 use crate::phrases::Kind;
-use crate::sides::{memmem, Case, EngineSides, EngineTimes};
+use crate::sides::{memmem, Case, EngineSides, EngineTimes, MovesSides, MovesTimes};
 use crate::texts::{Family, Text};
 use libretto::Method;
 
@@ -48,9 +48,10 @@ pub fn classes<'a>(texts: &'a [Text], checker: &mut Checker) -> Vec<Class<'a>> {
     classes
 }
 
-/// The sides of a class: eight engines with their twins and their references, and `memmem`.
+/// The sides of a class: eight engines with their twins and their references, FJS with a list of its moves, and `memmem`.
 pub struct Contest<'a> {
     engines: Vec<EngineSides<'a>>,
+    moves: MovesSides<'a>,
     memmem: Side<'a>,
 }
 
@@ -58,19 +59,21 @@ impl<'a> Contest<'a> {
     /// The sides that take part in a class.
     pub fn new(class: &'a Class<'a>) -> Contest<'a> {
         let engines = Method::ALL.iter().map(|&method| EngineSides::with_reference(method, &class.case)).collect();
-        Contest { engines, memmem: memmem(&class.case) }
+        Contest { engines, moves: MovesSides::new(&class.case), memmem: memmem(&class.case) }
     }
 
     /// So many rounds of all sides.
     pub fn run(&mut self, count: usize, lent: &mut Lent) {
         let mut sides: Vec<&mut Side> = self.engines.iter_mut().flat_map(EngineSides::all).collect();
+        sides.extend(self.moves.all());
         sides.push(&mut self.memmem);
         rounds(&mut sides, count, lent);
     }
 
     /// The best times so far.
     pub fn times(&self) -> ClassTimes {
-        ClassTimes { engines: self.engines.iter().map(EngineSides::times).collect(), memmem: self.memmem.best() }
+        let engines = self.engines.iter().map(EngineSides::times).collect();
+        ClassTimes { engines, moves: self.moves.times(), memmem: self.memmem.best() }
     }
 }
 
@@ -78,6 +81,8 @@ impl<'a> Contest<'a> {
 pub struct ClassTimes {
     /// Each engine's, in the order of the methods.
     pub engines: Vec<EngineTimes>,
+    /// FJS's with a list of its moves.
+    pub moves: MovesTimes,
     /// Those of `memmem`.
     pub memmem: f64,
 }

@@ -58,6 +58,53 @@ fn twin<'a>(build: &'static Build, method: Method, case: &'a Case<'a>) -> Side<'
     })
 }
 
+/// The sides of a find by FJS with a list of its moves, all as linked: the library's, its twins', and the library's find without that list.
+pub struct MovesSides<'a> {
+    library: Side<'a>,
+    twins: Vec<Side<'a>>,
+    plain: Side<'a>,
+}
+
+impl<'a> MovesSides<'a> {
+    /// The sides that take part in a case.
+    pub fn new(case: &'a Case<'a>) -> MovesSides<'a> {
+        let with_moves = Side::new(move |lent: &mut Lent| {
+            case.each(|phrase, text| {
+                black_box(libretto::find_moves_raw(phrase, text, &mut lent.scratch, &mut lent.list, &mut lent.moves));
+            })
+        });
+        let twin = |build: &'static Build| {
+            Side::new(move |lent: &mut Lent| {
+                case.each(|phrase, text| {
+                    black_box(build.find_moves(phrase, text, lent));
+                })
+            })
+        };
+        MovesSides { library: with_moves, twins: BUILDS.iter().map(twin).collect(), plain: library(Method::Fjs, case) }
+    }
+
+    /// All sides.
+    pub fn all(&mut self) -> impl Iterator<Item = &mut Side<'a>> {
+        std::iter::once(&mut self.library).chain(&mut self.twins).chain(std::iter::once(&mut self.plain))
+    }
+
+    /// The best times so far.
+    pub fn times(&self) -> MovesTimes {
+        MovesTimes { library: self.library.best(), twin: least(self.twins.iter().map(Side::best)), plain: self.plain.best() }
+    }
+}
+
+/// The times of a find with a list of moves in nanoseconds, for all phrases in all texts of a case.
+#[derive(Clone, Copy, Debug)]
+pub struct MovesTimes {
+    /// The library where the linker placed it in this program.
+    pub library: f64,
+    /// The best build of the C twin.
+    pub twin: f64,
+    /// The library's find without a list of moves, where the linker placed it.
+    pub plain: f64,
+}
+
 /// The side of `memmem`.
 pub fn memmem<'a>(case: &'a Case<'a>) -> Side<'a> {
     Side::new(move |lent| {

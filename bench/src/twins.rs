@@ -15,6 +15,16 @@ pub struct TwinFinding {
     pub comparisons: u32,
 }
 
+/// What the twin of a find with moves gives back.
+#[derive(Clone, Copy, Debug, PartialEq, Eq)]
+#[repr(C)]
+pub struct TwinMovesFinding {
+    /// What a find gives.
+    pub found: TwinFinding,
+    /// The number of all moves.
+    pub moves: u32,
+}
+
 /// What the book reader's twin gives back.
 #[derive(Clone, Copy, Debug, PartialEq, Eq)]
 #[repr(C)]
@@ -26,33 +36,46 @@ pub struct TwinAnswer {
 }
 
 type Find = unsafe extern "C" fn(*const u8, usize, *const u8, usize, *mut u16, *mut u32, usize) -> TwinFinding;
+type FindMoves = unsafe extern "C" fn(*const u8, usize, *const u8, usize, *mut u16, *mut u32, usize, *mut u32, usize) -> TwinMovesFinding;
 type ReadBook = unsafe extern "C" fn(*const u8, usize) -> TwinAnswer;
 
 /// The twins compiled with one placement of code.
 pub struct Build {
     finds: [Find; 8],
+    find_moves: FindMoves,
     read_book: ReadBook,
 }
 
 /// Declares the functions of each build and lists the builds.
 macro_rules! builds {
-    ($($read_book:ident: $($find:ident)*;)*) => {
+    ($($read_book:ident $find_moves:ident: $($find:ident)*;)*) => {
         extern "C" {
             $(
                 $(fn $find(phrase: *const u8, m: usize, text: *const u8, n: usize, scratch: *mut u16, list: *mut u32, list_len: usize) -> TwinFinding;)*
+                fn $find_moves(
+                    phrase: *const u8,
+                    m: usize,
+                    text: *const u8,
+                    n: usize,
+                    scratch: *mut u16,
+                    list: *mut u32,
+                    list_len: usize,
+                    moves: *mut u32,
+                    moves_len: usize,
+                ) -> TwinMovesFinding;
                 fn $read_book(book: *const u8, book_len: usize) -> TwinAnswer;
             )*
         }
 
         /// The builds that `build.rs` makes. The best of them stands for C.
-        pub static BUILDS: [Build; 3] = [$(Build { finds: [$($find),*], read_book: $read_book }),*];
+        pub static BUILDS: [Build; 3] = [$(Build { finds: [$($find),*], find_moves: $find_moves, read_book: $read_book }),*];
     };
 }
 
 builds! {
-    twin_read_book_plain: twin_naive_plain twin_kmp_plain twin_horspool_plain twin_sunday_plain twin_fjs_plain twin_double_window_plain twin_boyer_moore_plain twin_improved_fjs_plain;
-    twin_read_book_wide: twin_naive_wide twin_kmp_wide twin_horspool_wide twin_sunday_wide twin_fjs_wide twin_double_window_wide twin_boyer_moore_wide twin_improved_fjs_wide;
-    twin_read_book_packed: twin_naive_packed twin_kmp_packed twin_horspool_packed twin_sunday_packed twin_fjs_packed twin_double_window_packed twin_boyer_moore_packed twin_improved_fjs_packed;
+    twin_read_book_plain twin_fjs_moves_plain: twin_naive_plain twin_kmp_plain twin_horspool_plain twin_sunday_plain twin_fjs_plain twin_double_window_plain twin_boyer_moore_plain twin_improved_fjs_plain;
+    twin_read_book_wide twin_fjs_moves_wide: twin_naive_wide twin_kmp_wide twin_horspool_wide twin_sunday_wide twin_fjs_wide twin_double_window_wide twin_boyer_moore_wide twin_improved_fjs_wide;
+    twin_read_book_packed twin_fjs_moves_packed: twin_naive_packed twin_kmp_packed twin_horspool_packed twin_sunday_packed twin_fjs_packed twin_double_window_packed twin_boyer_moore_packed twin_improved_fjs_packed;
 }
 
 type LibraryFind = unsafe extern "C" fn(u32, *const u8, usize, *const u8, usize, *mut u16, usize, *mut u32, usize) -> RawFinding;
@@ -127,6 +150,27 @@ impl Build {
                 lent.scratch.as_mut_ptr(),
                 lent.list.as_mut_ptr(),
                 lent.list.len(),
+            )
+        }
+    }
+
+    /// The twin of the find with moves, in the scratch, the list and the list of moves.
+    pub fn find_moves(&self, phrase: &[u8], text: &[u8], lent: &mut Lent) -> TwinMovesFinding {
+        assert!((1..=PHRASE_MAX).contains(&phrase.len()) && text.len() <= TEXT_MAX);
+        assert!(lent.scratch.len() >= Method::Fjs.scratch_entries(phrase.len()));
+        // SAFETY: as for `find`; the list of moves has its own length beside it and is kept apart from the rest by the borrow of `lent`.
+        // `TwinMovesFinding` has the layout of the C structure.
+        unsafe {
+            (self.find_moves)(
+                phrase.as_ptr(),
+                phrase.len(),
+                text.as_ptr(),
+                text.len(),
+                lent.scratch.as_mut_ptr(),
+                lent.list.as_mut_ptr(),
+                lent.list.len(),
+                lent.moves.as_mut_ptr(),
+                lent.moves.len(),
             )
         }
     }
