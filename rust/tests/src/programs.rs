@@ -9,14 +9,18 @@ pub fn repository() -> PathBuf {
     Path::new(env!("CARGO_MANIFEST_DIR")).join("../..")
 }
 
+/// The library's archive.
+pub fn archive() -> PathBuf {
+    env::var_os("LIBRETTO_LIB_DIR").map_or_else(|| repository().join("target/staticlib"), PathBuf::from).join("liblibretto.a")
+}
+
 /// Compiles a C example against the header and the archive, with every warning an error, and gives the program's path in this folder.
 pub fn c_example(name: &str, folder: &Path) -> PathBuf {
-    let archive = env::var_os("LIBRETTO_LIB_DIR").map_or_else(|| repository().join("target/staticlib"), PathBuf::from).join("liblibretto.a");
     let program = folder.join(format!("c-example-{name}"));
     let source = format!("examples/{name}.c");
     let warnings = ["-std=c99", "-Wall", "-Wextra", "-Wpedantic", "-Werror"];
     run_builder(
-        Command::new("gcc").current_dir(repository()).args(warnings).args(["-O2", "-I", "include", &source]).arg(archive).arg("-o").arg(&program),
+        Command::new("gcc").current_dir(repository()).args(warnings).args(["-O2", "-I", "include", &source]).arg(archive()).arg("-o").arg(&program),
     );
     program
 }
