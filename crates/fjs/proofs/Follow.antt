@@ -9,7 +9,7 @@ use lib.Dec.{leb}
 use borrow.Author.Tests.{leb-true, leb-false}
 use Rattle.matching.specs.Machine.{State, stop, at, windows, runFrom}
 use Rattle.matching.proofs.CaseAnalysis.{by-test}
-use Rattle.matching.proofs.Machine.{Ahead, Carried, carries-none, windows-on, windows-off, windows-stop}
+use Rattle.matching.proofs.Machine.{Ahead, Carried, carries-none, windows-on, windows-off, windows-stop, windows-none}
 use Rattle.fjs.specs.Fjs.{Rule, step, window}
 use Rattle.fjs.specs.Moves.{Move, moveTo, movesIn, moves}
 use Rattle.fjs.proofs.Sound.{sound}
@@ -31,14 +31,10 @@ module _ (P T : List ℕ) where
   one-more s (at s′ q′) rule ms inside ahead more = (refl, (inside, (ahead, more)))
 
   module _ (some : 1 ≤ length P) where
-    no-window : (x : State) → windows zero window P T x ≡ []
-    unfolding windows
-    no-window x = refl
-
     from-here : (f : ℕ) (x : State) → Carried P T x → FollowsFrom P T x (movesIn P T (windows f window P T x))
     unfolding movesIn
     from-here zero stop c = ap (movesIn P T) (windows-stop zero window P T)
-    from-here zero (at s q) c = rw (no-window (at s q)) tt
+    from-here zero (at s q) c = rw (windows-none window P T (at s q)) tt
     from-here (suc f) stop c = ap (movesIn P T) (windows-stop (suc f) window P T)
     from-here (suc f) (at s q) c =
         by-test (λ _. Follows P T s (movesIn P T (windows (suc f) window P T (at s q)))) (leb (s + length P) (length T))

@@ -93,7 +93,7 @@ unfolding windows
 windows-stop zero w P T = refl
 windows-stop (suc f) w P T = refl
 
-windows-none : (w : Steps) (P T : List ℕ) (x : State) → windows zero w P T x ≡ []
+pub windows-none : (w : Steps) (P T : List ℕ) (x : State) → windows zero w P T x ≡ []
 unfolding windows
 windows-none w P T x = refl
 

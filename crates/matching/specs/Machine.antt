@@ -28,6 +28,7 @@ pub record Visit : Type 0 where
   pub carried : ℕ
   pub window : Window
 
+-- the window that these steps make at s, with q letters carried
 abbrev pub visit : Steps → List ℕ → List ℕ → ℕ → ℕ → Visit
 visit w P T s q = record { start = s; carried = q; window = w P T s q }
 

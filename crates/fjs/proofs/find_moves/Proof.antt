@@ -79,7 +79,6 @@ returns-2 : tie.Need-returns-2
 returns-2 c =
     let s = searched (c .before .before) in
     let e = entered s in
-    let a = call (tested e) .args in
     let r = s .search .ensures in (
       found-all (allowed e) r (tested e .prepare .ensures .1),
       (
