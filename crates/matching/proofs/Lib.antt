@@ -2,6 +2,8 @@
 pub mod CaseAnalysis
 pub mod Occurrences
 pub mod Ranges
+pub mod Those
+pub mod Around
 pub mod Received
 pub mod Parts
 pub mod Refusals

@@ -1,10 +1,10 @@
 -- Two texts joined into one (document 02, (ix)): the positions that cross the seam, and what three finds, in the first text, in the second and in the joined one, have to do with
 -- each other. That `crossing` holds exactly the positions that cross is shown in proofs/Joined.antt (`crossing-are`).
 use mathlib.Core.Path.{_≡_}
-use Prim.Native.Nat.{ℕ, _+_, _<_}
+use Prim.Native.Nat.{ℕ, _+_, _-_, _<_}
 use mathlib.Core.Bool.{Bool, cond, _&&_}
 use mathlib.Core.List.{List, [], _∷_, _++_, map}
-use lib.ListN.{length, take}
+use lib.ListN.{length, take, drop}
 use lib.Dec.{ltb}
 use Rattle.matching.specs.declared.Finding.{Finding}
 use Rattle.matching.specs.Occurrences.{occurrences, Occurs}
@@ -28,6 +28,10 @@ pub record Crosses (P T₁ T₂ : List ℕ) (k : ℕ) : Type 0 where
   pub occurs : Occurs P (T₁ ++ T₂) k
   pub starts : k < length T₁
   pub ends : length T₁ < k + length P
+
+-- at most c letters at a text's end
+abbrev pub lastOf : ℕ → List ℕ → List ℕ
+lastOf c T = drop (length T - c) T
 
 -- positions moved up by n
 abbrev pub movedUp : ℕ → List ℕ → List ℕ
