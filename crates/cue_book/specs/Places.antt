@@ -12,7 +12,7 @@ use Rattle.cues.specs.declared.CueAnswer.{CueAnswer}
 use Rattle.cues.specs.Cue.{Cue}
 use Rattle.cues.specs.Reading.{cueSize}
 use Rattle.cues.specs.Places.{cueNumber, cueEnd, cuesMeant, titleStart, titleLength}
-use Rattle.cue_book.specs.declared.Answer.{Answer}
+use Rattle.matching.specs.declared.Answer.{Answer}
 use Rattle.cue_book.specs.declared.Part.{Part}
 use Rattle.cue_book.specs.Reading.{readBook, refusalOf, numberOf, cuesIn, titleAt}
 

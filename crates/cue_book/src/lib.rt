@@ -1,19 +1,13 @@
 // This crate reads whole cue books, and shows a title (document 01, "Cue book, folding, lines").
-// It depends on `cues` for one cue, on `cue_fields` for the size of a cue's fields, and on `matching` for its case analysis and its parts of a slice.
+// It depends on `cues` for one cue, on `cue_fields` for the size of a cue's fields, and on `matching` for the answer that a call gives, case analysis and parts of a slice.
 // proofs/Books.antt has the laws of a book read cue by cue; `cue_writer` has those that a book written reads back.
 use cues::CueAnswer;
+use matching::Answer;
 ghost use mathlib.Core.Path.{_≡_};
 ghost use Prim.Native.Nat.{_≤_};
 ghost use lib.ListN.{length, take};
 ghost use Rattle.cue_book.specs.Places.{bookAnswer, TitlePlaced, TitleShown};
 ghost use Rattle.cue_book.specs.Walking.{Walked};
-
-// A refusal with the cue's index, or 0 with a number of cues or of bytes.
-#[repr(C)]
-pub struct Answer {
-    pub refusal: u32,
-    pub number: u32,
-}
 
 // A part of a book: where it starts, and how many bytes it has.
 #[repr(C)]

@@ -17,7 +17,7 @@ use Rattle.cues.specs.Reading.{afterCue, cueSize}
 use Rattle.cues.specs.Places.{cueEnd, cuesMeant, CueRead}
 use Rattle.cues.proofs.Cues.{cue-inside, cue-some}
 use Rattle.cues.proofs.Values.{cue-back, cue-put}
-use Rattle.cue_book.specs.declared.Answer.{Answer}
+use Rattle.matching.specs.declared.Answer.{Answer}
 use Rattle.cue_book.specs.Book.{bookBytes, AllValid}
 use Rattle.cue_book.specs.Reading.{cues, followed, readUpTo, readBook, refusalOf, cuesIn}
 use Rattle.cue_book.specs.Places.{cuePlace}

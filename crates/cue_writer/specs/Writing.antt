@@ -8,7 +8,7 @@ use lib.Dec.{eqb, ltb}
 use Rattle.matching.specs.Refusals.{Test, firstMet}
 use Rattle.cue_fields.specs.Field.{twoBytes}
 use Rattle.cues.specs.Cue.{Cue, cueBytes}
-use Rattle.cue_book.specs.declared.Answer.{Answer}
+use Rattle.matching.specs.declared.Answer.{Answer}
 
 -- the refusals of a cue in a buffer of that capacity: a phrase of 0 bytes (2) or above 1,024 (3), an ordinal outside 1 to 65,535 or a title above 200 (9), longer than the buffer (13)
 abbrev pub writeTests : Cue → ℕ → List Test

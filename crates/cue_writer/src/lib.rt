@@ -1,7 +1,7 @@
 // This crate writes a cue (document 01, "Cue book, folding, lines").
-// It depends on `cues` and `cue_book` for the format, on `cue_fields` for a field's bytes, on `pieces` for laying them out, and on `matching` for its tables of refusals.
+// It depends on `cues` and `cue_book` for the format, on `cue_fields` for a field's bytes, on `pieces` for laying them out, and on `matching` for its tables of refusals and the answer that a call gives.
 // Demand 2 is carried by proofs/Inverse.antt: what is written reads back (`written-reads`), and what is accepted was so written (`accepted-written`).
-use cue_book::Answer;
+use matching::Answer;
 ghost use mathlib.Core.Path.{_≡_};
 ghost use Prim.Native.Nat.{_≤_};
 ghost use lib.ListN.{length};

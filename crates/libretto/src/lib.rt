@@ -1,12 +1,12 @@
 // This crate is the C interface: each function is exported under the name that include/libretto.h gives it, and carries the exact contract of what it wraps.
 // An enum does not pass to C: the definitions of specs/Plain.antt say which numbers pass in its place. `rt staticlib libretto` makes the archive that C and Rust link.
-// It depends on `find`, `fjs`, `fold`, `cue_fields`, `cues`, `cue_book`, `cue_writer` and `resolver` for what it exports, and on `matching` for a finding.
-use cue_book::Answer;
+// It depends on `find`, `fjs`, `fold`, `cue_fields`, `cues`, `cue_book`, `cue_writer` and `resolver` for what it exports, and on `matching` for a finding and an answer.
 use cue_book::Part;
 use cue_fields::Due;
 use cue_fields::FieldAnswer;
 use cues::CueAnswer;
 use fjs::MovesFinding;
+use matching::Answer;
 use matching::Finding;
 ghost use mathlib.Core.Path.{_≡_};
 ghost use mathlib.Core.List.{map};

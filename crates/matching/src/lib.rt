@@ -14,6 +14,13 @@ pub struct Finding {
     pub comparisons: u32,
 }
 
+// What a call gives back that answers with one number: a refusal number (0 for none), and that number.
+#[repr(C)]
+pub struct Answer {
+    pub refusal: u32,
+    pub number: u32,
+}
+
 // The refusal, 2 to 5 in their order, of a find of m letters in n with a scratch of `has` entries where `needs` are needed; 0 for none.
 pub fn refused(m: usize, n: usize, has: usize, needs: usize) -> u32
     ensures { λ r. ⌜ r ≡ refusal m n has needs ⌝ }

@@ -6,7 +6,7 @@ use lib.ListN.{length, drop, replicate}
 use Rattle.matching.proofs.Received.{received-none}
 use Rattle.fold.specs.Fold.{folded}
 use Rattle.cues.specs.Cue.{Cue}
-use Rattle.cue_book.specs.declared.Answer.{Answer}
+use Rattle.matching.specs.declared.Answer.{Answer}
 use Rattle.cue_book.specs.Reading.{cues, readBook, cuesIn}
 use Rattle.cue_book.specs.Places.{bookAnswer}
 use Rattle.outcome.specs.Outcome.{callRefusal, refusing}

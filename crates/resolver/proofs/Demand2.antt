@@ -15,7 +15,7 @@ use Rattle.matching.proofs.CaseAnalysis.{by-test}
 use Rattle.fold.specs.Fold.{capital, folded}
 use Rattle.fold.proofs.Fold.{folded-twice}
 use Rattle.cues.specs.Cue.{Cue}
-use Rattle.cue_book.specs.declared.Answer.{Answer}
+use Rattle.matching.specs.declared.Answer.{Answer}
 use Rattle.cue_book.specs.Reading.{cues, readBook, cuesIn}
 use Rattle.line_column.specs.LineColumn.{lineColumn}
 use Rattle.line_column.proofs.Lines.{lines-kept}

@@ -6,7 +6,7 @@ use mathlib.Core.List.{List, _++_, map}
 use lib.ListN.{length, drop, replicate}
 use Rattle.matching.specs.Received.{received}
 use Rattle.fold.specs.Fold.{folded}
-use Rattle.cue_book.specs.declared.Answer.{Answer}
+use Rattle.matching.specs.declared.Answer.{Answer}
 use Rattle.cue_book.specs.Reading.{readBook}
 use Rattle.outcome.specs.Outcome.{Call, Outcome, outcome}
 

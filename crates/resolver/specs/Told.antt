@@ -6,7 +6,7 @@ use mathlib.Core.List.{List, _∷_, _++_}
 use lib.ListN.{length}
 use Rattle.fold.specs.Fold.{folded}
 use Rattle.cues.specs.Cue.{Cue}
-use Rattle.cue_book.specs.declared.Answer.{Answer}
+use Rattle.matching.specs.declared.Answer.{Answer}
 use Rattle.cue_book.specs.Reading.{cues, readBook}
 use Rattle.outcome.specs.Outcome.{isThere}
 use Rattle.outcome.specs.Told.{CameOut}

@@ -5,7 +5,7 @@ use mathlib.Core.List.{List, map}
 use lib.ListN.{length}
 use Rattle.matching.specs.Received.{received}
 use Rattle.fold.specs.Fold.{folded}
-use Rattle.cue_book.specs.declared.Answer.{Answer}
+use Rattle.matching.specs.declared.Answer.{Answer}
 use Rattle.cue_book.specs.Reading.{cues, readBook, cuesIn}
 use Rattle.outcome.specs.Outcome.{chosen, Resolution, resolution}
 

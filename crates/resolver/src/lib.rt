@@ -1,10 +1,10 @@
 // The resolver (document 01, "Cue book, folding, lines"): from the cues of a book to place, line and column, as `outcome` defines it.
 // It depends on `cue_fields`, `cues` and `cue_book` for the cues, on `fold`, on `fjs` for the occurrence that a cue names, on `line_column` for the line rule, on `tables` to
 // clear the scratch, and on `matching` for the laws of lent lists and of occurrences.
-use cue_book::Answer;
 use cues::CueAnswer;
 use fjs::Place;
 use line_column::LineColumn;
+use matching::Answer;
 ghost use mathlib.Core.Path.{_≡_};
 ghost use mathlib.Core.List.{map};
 ghost use Prim.Native.Nat.{_+_, _≤_};

@@ -8,7 +8,7 @@ use lib.ListN.{length, take, drop, replicate, length-map}
 use lib.Seq.{take-at}
 use Rattle.matching.proofs.Received.{received-front}
 use Rattle.fold.specs.Fold.{folded}
-use Rattle.cue_book.specs.declared.Answer.{Answer}
+use Rattle.matching.specs.declared.Answer.{Answer}
 use Rattle.cue_book.specs.Reading.{cues, readBook, numberOf, cuesIn}
 use Rattle.cue_book.proofs.Books.{accepted-book}
 use Rattle.outcome.specs.Outcome.{Call, callRefusal}
