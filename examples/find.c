@@ -1,5 +1,5 @@
 /* Finds a refrain in a few lines of verse by every engine, and prints each engine's line: its name, the total, the comparisons and the places; then the
- * total of moves by FJS, and the first of them. */
+ * total of moves by FJS, and the first of them; then the places after a cut, made from those before it. */
 #include <stdio.h>
 #include <string.h>
 
@@ -19,6 +19,19 @@ static void print_moves(const char *phrase, const char *text)
     printf("moves %u", (unsigned)found.moves);
     for (size_t i = 0; i < found.moves * LIBRETTO_MOVE_ENTRIES && i < room; i += LIBRETTO_MOVE_ENTRIES)
         printf(" %u-%u %s", (unsigned)moves[i], (unsigned)moves[i + 1], rules[moves[i + 2]]);
+    printf("\n");
+}
+
+/* The places after a late cut: the letters from start on, up to the one before end, become others. The text itself stays as it is. */
+static void print_cut(const char *phrase, const char *text, const uint32_t *list, size_t list_len, size_t start, size_t end, const char *letters)
+{
+    uint32_t answer[8];
+    libretto_answer cut = libretto_relist((const uint8_t *)phrase, strlen(phrase), (const uint8_t *)text, strlen(text), list, list_len,
+                                          start, end, (const uint8_t *)letters, strlen(letters), answer, sizeof answer / sizeof *answer);
+
+    printf("cut %u", (unsigned)cut.number);
+    for (uint32_t i = 0; i < cut.number && i < sizeof answer / sizeof *answer; i++)
+        printf(" %u", (unsigned)answer[i]);
     printf("\n");
 }
 
@@ -43,6 +56,9 @@ int main(void)
     }
 
     print_moves(phrase, text);
+
+    /* "tralalala" becomes "la": the list that the last engine left is whole, so the cut is made with it. */
+    print_cut(phrase, text, list, 4, 9, 18, "la");
 
     /* A scratch one entry short is refused, and nothing is written. */
     libretto_finding refused = libretto_find(LIBRETTO_FJS, (const uint8_t *)phrase, 4, (const uint8_t *)text, strlen(text),

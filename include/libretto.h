@@ -56,13 +56,14 @@ enum libretto_method {
 #define LIBRETTO_PHRASE_BUFFER ((size_t)1024)
 #define LIBRETTO_CUE_ENTRIES ((size_t)3)
 
-/* Why a call was refused. They are tested in this order, and the first that applies is returned; only 7 to 9 come as the book is read. */
+/* Why a call was refused. They are tested in this order, and the first that applies is returned; only 7 to 9 come as the book is read, and
+ * libretto_relist tests the new text's length (4) last. */
 enum libretto_refusal {
     LIBRETTO_OK = 0,             /* not refused */
     LIBRETTO_UNKNOWN_METHOD = 1, /* the method is above 7 */
     LIBRETTO_NO_PHRASE = 2,      /* the phrase has 0 bytes */
     LIBRETTO_LONG_PHRASE = 3,    /* the phrase has more than 1,024 bytes */
-    LIBRETTO_LONG_TEXT = 4,      /* the text has more than 32,768 bytes */
+    LIBRETTO_LONG_TEXT = 4,      /* the text, or the new text of a cut, has more than 32,768 bytes */
     LIBRETTO_SHORT_SCRATCH = 5,  /* the scratch has fewer entries than the method or the resolver needs */
     LIBRETTO_SHORT_BUFFER = 6,   /* the resolver's text copy is shorter than the text, or its phrase buffer has fewer than 1,024 bytes */
     LIBRETTO_CUT_FIELD = 7,      /* the book ends inside a field */
@@ -71,7 +72,9 @@ enum libretto_refusal {
     LIBRETTO_LONG_BOOK = 10,     /* bytes remain after 999 cues */
     LIBRETTO_SHORT_ENTRIES = 11, /* the cue entries are fewer than 3 for each cue */
     LIBRETTO_NO_OCCURRENCE = 12, /* a cue's occurrence does not exist */
-    LIBRETTO_LONG_CUE = 13       /* a cue to be written is longer than its buffer */
+    LIBRETTO_LONG_CUE = 13,      /* a cue to be written is longer than its buffer */
+    LIBRETTO_BAD_STRETCH = 17,   /* a stretch ends before it starts, or past the text */
+    LIBRETTO_BAD_LIST = 18       /* a list does not strictly rise, or holds a place where the phrase would pass the text's end */
 };
 
 /* What a find gives back: a refusal or 0, the total of occurrences, and the letter comparisons made; a refused call gives 0 for both. */
@@ -114,6 +117,31 @@ typedef struct {
 libretto_moves_finding libretto_find_moves(const uint8_t *phrase, size_t phrase_len, const uint8_t *text, size_t text_len, uint16_t *scratch,
                                            size_t scratch_len, uint32_t *list, size_t list_len, uint32_t *moves, size_t moves_len);
 
+/* What a call gives back that answers with one number: a refusal or 0, and a number that each function names. */
+typedef struct {
+    uint32_t refusal, number;
+} libretto_answer;
+
+/* Makes a phrase's list for a text in which a stretch is replaced, from its list for the old text: 0 and the total of places. The stretch is the
+ * letters from start on, up to the one before end; the new text is the old one up to start, the new letters, and the old one from end on. The text
+ * itself is not changed, and is looked at in no more than phrase_len - 1 letters on either side of the stretch.
+ *
+ * Places of the list whose phrase ends before the stretch stay; those at its end or after it move by the change of length; all others drop out, and
+ * the places where the phrase touches the new letters or crosses their seam are found afresh. So from the old text's list comes the new text's, the
+ * same that a find in the new text gives. Of another list that is not refused, the places that stay and move are taken as they are.
+ *
+ * Afterwards the answer holds the first places, rising, up to its length, and its entries past those keep their values; the total is full also where
+ * the answer is shorter, and a short answer is no refusal. There are at most list_len + phrase_len - 1 + letters_len of them, and they are a list that
+ * a further call on the new text takes, so cuts can be made one after another.
+ *
+ * It is refused for a phrase of 0 bytes (2) or more than 1,024 (3), a text of more than 32,768 bytes (4), a stretch that ends before it starts or past
+ * the text (17), a list that does not strictly rise or holds a place where the phrase would pass the text's end (18), and a new text of more than
+ * 32,768 bytes (4), in this order. A refused call gives 0 as the number and leaves the answer as it was. The answer must not overlap phrase, text,
+ * list or letters. The call also works in 3,069 bytes of the stack. */
+libretto_answer libretto_relist(const uint8_t *phrase, size_t phrase_len, const uint8_t *text, size_t text_len, const uint32_t *list,
+                                size_t list_len, size_t start, size_t end, const uint8_t *letters, size_t letters_len, uint32_t *answer,
+                                size_t answer_len);
+
 /* What a letter of ISO 8859-1 folds to: 32 is added to 0x41-0x5A and to 0xC0-0xDE except 0xD7, and every other byte stays. */
 uint8_t libretto_fold(uint8_t letter);
 
@@ -155,11 +183,6 @@ typedef struct {
  * book's end meets 7. To read all cues, start at 0 and go on at the end of each cue up to the book's length; that a book has at most 999 of them is
  * tested where a whole book is read. Nothing is written. */
 libretto_cue libretto_read_cue(const uint8_t *book, size_t book_len, size_t place);
-
-/* What a call on a cue book gives back: a refusal or 0, and a number that each function names. */
-typedef struct {
-    uint32_t refusal, number;
-} libretto_answer;
 
 /* Reads a whole book: 0 and its number of cues. A refused book gives 7, 8 or 9 and the index, from 0, of the cue where it was refused, or 10 and
  * 999. Nothing is written. */

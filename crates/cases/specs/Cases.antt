@@ -1,4 +1,4 @@
--- The starred cases of document 01, "Refrains to try", the cases that document 02, (ii) and (x), names, and the moves of an example run: one table, and what it means for a row to hold.
+-- The starred cases of document 01, "Refrains to try", the cases that document 02, (ii) and (x), names, the moves of an example run, and late cuts: one table, and what it means for a row to hold.
 use Prim.Native.Nat.{ℕ, suc, _-_}
 use mathlib.Core.Bool.{Bool, true, false, cond, _&&_}
 use mathlib.Core.List.{List, [], _∷_, _++_}
@@ -25,6 +25,7 @@ use Rattle.boyer_moore.specs.BoyerMoore as bm
 use Rattle.boyer_moore.specs.BoyerMoore.{boyerMoore}
 use Rattle.improved_fjs.specs.ImprovedFjs as improved
 use Rattle.improved_fjs.specs.ImprovedFjs.{improvedFjs}
+use Rattle.late_cuts.specs.LateCuts.{cut, newText, relisted}
 use Rattle.fold.specs.Fold.{folded}
 use Rattle.cues.specs.Cue.{Cue, cueWith}
 use Rattle.cue_book.specs.Book.{bookBytes}
@@ -48,6 +49,8 @@ pub data Case : Type 0 where
   find : Engine → List ℕ → List ℕ → List ℕ → ℕ → Case
   -- the moves of FJS for a pattern and a text, three numbers each
   windowMoves : List ℕ → List ℕ → List ℕ → Case
+  -- a late cut: the pattern, the old text, the list given, the stretch's start and end, the new letters; the list that comes of it, and the new text's own
+  lateCut : List ℕ → List ℕ → List ℕ → ℕ → ℕ → List ℕ → List ℕ → List ℕ → Case
   -- a letter, and what it folds to
   fold : ℕ → ℕ → Case
   -- a book's bytes, and the cues that it reads as
@@ -87,7 +90,7 @@ comesTo o refusal number entries = eqb (o .resolution .refusal) refusal && eqb (
 
 -- a row holds: the definitions give its answer
 unfoldable pub holds : Case → Bool
-unfolding same tabulate lastIn gap widest widestAt kmpEntry maxShift shift given movesFrom occurrences runFrom positionsIn compared window movesIn numbers bm.window improved.window folded readsAs readBook bookBytes comesTo outcome
+unfolding same tabulate lastIn gap widest widestAt kmpEntry maxShift shift given movesFrom occurrences runFrom positionsIn compared window movesIn numbers bm.window improved.window relisted folded readsAs readBook bookBytes comesTo outcome
 holds (kmpEntries P entries moves) = same (kmpTable P) entries && same (movesFrom 0 (kmpTable P)) moves
 holds (sundayEntries P letters entries others) = same (sundayTable P) (tabulate 256 (given letters entries others))
 holds (horspoolEntries P letters entries others) = same (horspoolTable P) (tabulate 256 (given letters entries others))
@@ -96,6 +99,7 @@ holds (gaps P entries width letter) = same (tabulate (length P) (gap P)) entries
 holds (maxShifts P entries) = same (maxShiftTable P) entries
 holds (find e P T positions comparisons) = same (occurrences P T) positions && same (positionsIn (run (e .steps) P T)) positions && eqb (compared e P T) comparisons
 holds (windowMoves P T entries) = same (numbers (fjs-moves.moves P T)) entries
+holds (lateCut P T list start end letters places own) = same (relisted P T list (cut start end letters)) places && same (occurrences P (newText T (cut start end letters))) own
 holds (fold letter small) = eqb (folded letter) small
 holds (book bytes cs) = readsAs (readBook bytes) cs && same (bookBytes cs) bytes
 holds (resolve bytes T refusal number entries) = comesTo (outcome folded (record { text = T; copy = length T; phrase = 1024; scratch = 1281; entries = 3 }) (readBook bytes)) refusal number entries
@@ -190,6 +194,12 @@ cases =
     ∷ windowMoves aba aba (0 ∷ 2 ∷ 2 ∷ [])
     ∷ windowMoves wordB aaa (0 ∷ 2 ∷ 1 ∷ [])
     ∷ windowMoves ab wordA []
+    ∷ lateCut la (la ++ 32 ∷ la) (0 ∷ 3 ∷ []) 2 3 la (0 ∷ 2 ∷ 4 ∷ []) (0 ∷ 2 ∷ 4 ∷ [])
+    ∷ lateCut la (la ++ 32 ∷ la) (0 ∷ 3 ∷ []) 1 4 [] (0 ∷ []) (0 ∷ [])
+    ∷ lateCut aba (ab ++ aba) (0 ∷ 2 ∷ []) 2 3 wordB [] []
+    ∷ lateCut aba (ab ++ aba) (0 ∷ 2 ∷ []) 1 2 (wordB ++ ab) (0 ∷ 2 ∷ 4 ∷ []) (0 ∷ 2 ∷ 4 ∷ [])
+    ∷ lateCut aba (ab ++ aba) [] 5 5 (wordB ++ wordA) (4 ∷ []) (0 ∷ 2 ∷ 4 ∷ [])
+    ∷ lateCut aba (ab ++ aba) (0 ∷ 1 ∷ 2 ∷ []) 0 1 [] (0 ∷ 1 ∷ []) (1 ∷ [])
     ∷ fold 0xC9 0xE9
     ∷ fold 0xD7 0xD7
     ∷ fold 0xDF 0xDF

@@ -1,6 +1,6 @@
 // This crate is the C interface: each function is exported under the name that include/libretto.h gives it, and carries the exact contract of what it wraps.
 // An enum does not pass to C: the definitions of specs/Plain.antt say which numbers pass in its place. `rt staticlib libretto` makes the archive that C and Rust link.
-// It depends on `find`, `fjs`, `fold`, `cue_fields`, `cues`, `cue_book`, `cue_writer` and `resolver` for what it exports, and on `matching` for a finding and an answer.
+// It depends on `find`, `fjs`, `late_cuts`, `fold`, `cue_fields`, `cues`, `cue_book`, `cue_writer` and `resolver` for what it exports, and on `matching` for a finding and an answer.
 use cue_book::Part;
 use cue_fields::Due;
 use cue_fields::FieldAnswer;
@@ -17,6 +17,7 @@ ghost use Rattle.matching.specs.Find.{Found};
 ghost use Rattle.fjs.specs.Fjs.{fjs, Bounded};
 ghost use Rattle.fjs.specs.Moves.{finding, Listed};
 ghost use Rattle.find.specs.Find.{Answered};
+ghost use Rattle.late_cuts.specs.LateCuts.{cut, Relisted};
 ghost use Rattle.fold.specs.Fold.{folded};
 ghost use Rattle.cues.specs.Cue.{cueWith};
 ghost use Rattle.cues.specs.Places.{cueAt};
@@ -74,6 +75,22 @@ pub extern "C" fn libretto_find_moves(
     ensures moved { λ r. ⌜ Listed (now (phrase .entry)) (now (text .entry)) (now (scratch .entry)) (now (moves .entry)) r (now (moves .exit)) ⌝ }
 {
     fjs::find_moves(phrase, text, scratch, list, moves)
+}
+
+// A phrase's list for a text in which a stretch was replaced, from its list for the old text: 0 and the total, or the refusal and 0.
+#[no_mangle]
+pub extern "C" fn libretto_relist(
+    phrase: &[u8],
+    text: &[u8],
+    list: &[u32],
+    start: usize,
+    end: usize,
+    letters: &[u8],
+    answer: &mut [u32],
+) -> Answer
+    ensures { λ r. ⌜ Relisted (now (phrase .entry)) (now (text .entry)) (now (list .entry)) (cut start end (now (letters .entry))) (now (answer .entry)) r (now (answer .exit)) ⌝ }
+{
+    late_cuts::relist(phrase, text, list, start, end, letters, answer)
 }
 
 // What a letter of ISO 8859-1 folds to.

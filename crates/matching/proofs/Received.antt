@@ -1,12 +1,12 @@
 -- A lent list that receives values one by one, for entries of any type: the law by which one more value is received is `received-more`. Assumes nothing.
-use mathlib.Core.Path.{_≡_, refl, sym, ap, _∙_}
+use mathlib.Core.Path.{_≡_, refl, sym, ap, ap₂, _∙_}
 use Prim.Native.Nat.{ℕ, zero, suc, _+_, _≤_}
 use native.Mathlib.Omega.{arith}
 use native.Mathlib.Numerals.{add-one}
 use mathlib.Core.List.{List, [], _∷_, _++_, append-nil, append-assoc}
-use lib.ListN.{length, set, replicate, length-replicate, length-append, length-take, length-drop, take, drop}
-use lib.Seq.{take-nil, take-all, drop-length}
-use Rattle.matching.specs.Received.{received}
+use lib.ListN.{length, set, replicate, length-replicate, length-append, length-take, length-drop, take, drop, take-append-drop}
+use lib.Seq.{take-nil, take-all, drop-nil, drop-length}
+use Rattle.matching.specs.Received.{received, receivedFrom}
 
 module _ {ℓ} {A : Type ℓ} where
   -- the rule by the list's and the values' first entries
@@ -40,6 +40,35 @@ module _ {ℓ} {A : Type ℓ} where
       let size₂ : at + 2 ≡ length two = omega (arith, length-append one (b ∷ []), length-append values (a ∷ [])) in
       ap (λ (l : List A). set (set l (at + 1) b) (at + 2) c) first ∙ ap (λ (l : List A). set l (at + 2) c) second ∙ ap (λ (k : ℕ). set (received list two) k c) size₂ ∙ received-more list two c
       ∙ ap (received list) (append-assoc one (b ∷ []) (c ∷ []) ∙ append-assoc values (a ∷ []) (b ∷ c ∷ []))
+
+  -- a list of no entries receives nothing anywhere
+  received-nowhere : (at : ℕ) (values : List A) → receivedFrom at [] values ≡ []
+  received-nowhere at values = ap₂ (λ (a b : List A). a ++ received b values) (take-nil at) (drop-nil at) ∙ received-full values
+
+  -- more values are received behind those that the list received
+  received-then : (list values more : List A) → receivedFrom (length values) (received list values) more ≡ received list (values ++ more)
+  received-then [] values more =
+      ap (λ (l : List A). receivedFrom (length values) l more) (received-full values) ∙ received-nowhere (length values) more ∙ sym (received-full (values ++ more))
+  received-then (y ∷ list) [] more = ap (λ (l : List A). received l more) (received-none (y ∷ list))
+  received-then (y ∷ list) (x ∷ values) more =
+      ap (λ (l : List A). receivedFrom (suc (length values)) l more) (received-cons y x list values) ∙ ap (λ (l : List A). x ∷ l) (received-then list values more)
+      ∙ sym (received-cons y x list (values ++ more))
+
+  -- behind the first `at` entries: none, and one and then the others
+  pub received-over : (at : ℕ) (list : List A) → receivedFrom at list [] ≡ list
+  received-over at list = ap (λ (l : List A). take at list ++ l) (received-none (drop at list)) ∙ take-append-drop at list
+
+  pub received-one : (at : ℕ) (list : List A) (x : A) (values : List A) → receivedFrom at list (x ∷ values) ≡ receivedFrom (suc at) (set list at x) values
+  received-one at [] x values = received-nowhere at (x ∷ values) ∙ sym (received-full values)
+  received-one zero (y ∷ list) x values = received-cons y x list values
+  received-one (suc at) (y ∷ list) x values = ap (λ (l : List A). y ∷ l) (received-one at list x values)
+
+  -- values, and then more
+  pub received-on : (at n : ℕ) (list values more : List A) → n ≡ at + length values → receivedFrom n (receivedFrom at list values) more ≡ receivedFrom at list (values ++ more)
+  received-on zero n list values more e = let same : n ≡ length values = omega arith in rw same (received-then list values more)
+  received-on (suc at) n [] values more e = ap (λ (l : List A). receivedFrom n l more) (received-full values) ∙ received-nowhere n more ∙ sym (received-full (values ++ more))
+  received-on (suc at) zero (y ∷ list) values more e = absurd (omega arith)
+  received-on (suc at) (suc n) (y ∷ list) values more e = ap (λ (l : List A). y ∷ l) (received-on at n list values more (omega arith))
 
   -- the list keeps its length
   pub length-received : (list values : List A) → length (received list values) ≡ length list

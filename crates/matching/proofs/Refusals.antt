@@ -19,6 +19,20 @@ unfolding firstMet Passed
 met [] t later p e = rw e
 met (b ∷ before) t later p e = rw (p .0) (met before t later (p .1) e)
 
+-- a row that is met is met whatever rows come later
+pub met-before : (before later : List Test) → (firstMet before ≡ 0 → ⊥) → firstMet (before ++ later) ≡ firstMet before
+unfolding firstMet
+met-before [] later some = absurd (some refl)
+met-before (b ∷ before) later some =
+    by-test (λ t. (cond t (b .1) (firstMet before) ≡ 0 → ⊥) → cond t (b .1) (firstMet (before ++ later)) ≡ cond t (b .1) (firstMet before)) (b .0)
+    (λ _ _. refl) (λ _ z. met-before before later z) some
+
+-- and rows that were passed play no part
+pub met-after : (before later : List Test) → Passed before → firstMet (before ++ later) ≡ firstMet later
+unfolding firstMet Passed
+met-after [] later p = refl
+met-after (b ∷ before) later p = rw (p .0) (met-after before later (p .1))
+
 pub none-met : (ts : List Test) → Passed ts → firstMet ts ≡ 0
 unfolding firstMet Passed
 none-met [] p = refl

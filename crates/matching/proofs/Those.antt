@@ -1,9 +1,11 @@
 -- Those of some positions that pass a test: `those` of specs/Joined.antt. Assumes nothing.
 use mathlib.Core.Path.{_≡_, refl, sym, ap, _∙_}
 use mathlib.Core.Logic.{⊎-elim}
-use Prim.Native.Nat.{ℕ}
+use Prim.Native.Nat.{ℕ, suc, _≤_}
+use native.Mathlib.Omega.{arith}
 use mathlib.Core.Bool.{Bool, true, false, cond}
 use mathlib.Core.List.{List, [], _∷_, _++_, List·Memᴰ, List·Memᴰ·head, List·Memᴰ·tail, List·Memᴰ·cases-cons, List·Memᴰ·not-nil}
+use lib.ListN.{length}
 use Rattle.matching.specs.Joined.{those}
 use Rattle.matching.proofs.CaseAnalysis.{by-test}
 
@@ -14,6 +16,16 @@ module _ (test : ℕ → Bool) where
   those-append (k ∷ ks) js =
       rw (those-append ks js)
       (by-test (λ t. cond t (k ∷ those test ks ++ those test js) (those test ks ++ those test js) ≡ cond t (k ∷ those test ks) (those test ks) ++ those test js) (test k) (λ _. refl) (λ _. refl))
+
+  -- of none, and how many there are at most
+  pub those-nothing : those test [] ≡ []
+  unfolding those
+  those-nothing = refl
+
+  pub those-few : (ks : List ℕ) → length (those test ks) ≤ length ks
+  unfolding those
+  those-few [] = omega arith
+  those-few (k ∷ ks) = by-test (λ t. length (cond t (k ∷ those test ks) (those test ks)) ≤ suc (length ks)) (test k) (λ _. omega (arith, those-few ks)) (λ _. omega (arith, those-few ks))
 
   -- all do, or none does
   pub those-all : (ks : List ℕ) → ((k : ℕ) → List·Memᴰ k ks → test k ≡ true) → those test ks ≡ ks

@@ -339,6 +339,33 @@ fn known(place: usize, other: usize, line: u32, column: u32) {
     io::write_all(1, b"\n");
 }
 
+// A late cut of `la la la` for the phrase `la`, with the list of its places: the refusal, the total, and an answer of four.
+fn cut(start: usize, end: usize, letters: &[u8]) {
+    let list = [0, 3, 6];
+    let mut answer = [9; 4];
+    let r = late_cuts::relist(b"la", b"la la la", &list, start, end, letters, &mut answer);
+    io::write_all(1, b"cut with ");
+    io::write_all(1, letters);
+    number(start as u64);
+    number(end as u64);
+    number(r.refusal as u64);
+    number(r.number as u64);
+    places(&answer);
+}
+
+// One place drops out, is found again, is split in two and joined; at either end; more places than the answer has; and a stretch that is refused.
+fn cuts() {
+    cut(3, 5, b"so");
+    cut(3, 5, b"la");
+    cut(4, 4, b"-");
+    cut(1, 7, b"");
+    cut(0, 3, b"");
+    cut(8, 8, b" la");
+    cut(2, 6, b" la la la ");
+    cut(5, 3, b"");
+    cut(3, 9, b"");
+}
+
 // Each kind of ending, between letters and at the text's end.
 fn endings() {
     lines(b"", b"");
@@ -388,6 +415,7 @@ fn main() {
     kmp_bound();
     boyer_moore();
     improved();
+    cuts();
     endings();
     places_told();
 }

@@ -1,6 +1,6 @@
 //! Cue books: reading fields, cues and whole books, titles, and writing a cue.
 
-use crate::{ffi, Refusal};
+use crate::{ffi, RawAnswer, Refusal};
 use std::error::Error;
 use std::fmt;
 
@@ -32,16 +32,6 @@ impl fmt::Display for BookError {
 }
 
 impl Error for BookError {}
-
-/// What a call on a book gives back, as it stands in the C interface.
-#[derive(Clone, Copy, Debug, PartialEq, Eq, Hash)]
-#[repr(C)]
-pub struct RawAnswer {
-    /// The refusal's number; 0 if the call was not refused.
-    pub refusal: u32,
-    /// A number of cues or of bytes, or a cue's index; each function names it.
-    pub number: u32,
-}
 
 /// A part of a book, as it stands in the C interface.
 #[derive(Clone, Copy, Debug, PartialEq, Eq, Hash)]

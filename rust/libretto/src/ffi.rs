@@ -28,6 +28,21 @@ extern "C" {
         moves_len: usize,
     ) -> RawMovesFinding;
 
+    fn libretto_relist(
+        phrase: *const u8,
+        phrase_len: usize,
+        text: *const u8,
+        text_len: usize,
+        list: *const u32,
+        list_len: usize,
+        start: usize,
+        end: usize,
+        letters: *const u8,
+        letters_len: usize,
+        answer: *mut u32,
+        answer_len: usize,
+    ) -> RawAnswer;
+
     fn libretto_fold(letter: u8) -> u8;
 
     fn libretto_fold_text(text: *const u8, text_len: usize, target: *mut u8, target_len: usize) -> usize;
@@ -103,6 +118,28 @@ pub(crate) fn find_moves(phrase: &[u8], text: &[u8], scratch: &mut [u16], list: 
             list.len(),
             moves.as_mut_ptr(),
             moves.len(),
+        )
+    }
+}
+
+/// Calls `libretto_relist` on slices.
+pub(crate) fn relist(phrase: &[u8], text: &[u8], list: &[u32], start: usize, end: usize, letters: &[u8], answer: &mut [u32]) -> RawAnswer {
+    // SAFETY: as for `find`; phrase, text, list and letters are for reading, the answer for reading and writing, and its exclusive borrow keeps it
+    // apart from the other four. The library accepts any start and end. `RawAnswer` has the layout of the C structure (`repr(C)`, two `u32`).
+    unsafe {
+        libretto_relist(
+            phrase.as_ptr(),
+            phrase.len(),
+            text.as_ptr(),
+            text.len(),
+            list.as_ptr(),
+            list.len(),
+            start,
+            end,
+            letters.as_ptr(),
+            letters.len(),
+            answer.as_mut_ptr(),
+            answer.len(),
         )
     }
 }

@@ -3,7 +3,7 @@
 //! All engines give the same list of places; each gives the count of its own letter comparisons. The library allocates nothing: the caller lends a
 //! scratch of 16-bit numbers for the tables and a list of 32-bit numbers for the places. [`find_all`] lends both itself. The engines compare letters
 //! as they stand; the resolver alone folds them, and [`fold_text`] folds for whoever wants to find in the same way. [`find_moves`] also lists by which
-//! rule the window of FJS moved.
+//! rule the window of FJS moved. [`relist`] makes a phrase's list for a text in which a stretch is replaced from its list for the old one.
 //!
 //! A cue book is 0 to 999 cues, each with a phrase, an ordinal and a title: [`write_cue`] writes one, [`read_cue`] reads one, [`read_book`] tests a
 //! whole book, and [`title`] shows a title where it stands. [`resolve`] finds the place, line and column of each cue in a text, in lent memory too;
@@ -34,15 +34,17 @@ mod cue_book;
 #[allow(unsafe_code)]
 mod ffi;
 mod find;
+mod late_cuts;
 mod moves;
 mod refusal;
 mod resolver;
 
 pub use cue_book::{read_book, read_book_raw, read_cue, read_cue_raw, read_field, read_field_raw, title, title_raw, write_cue, write_cue_raw};
-pub use cue_book::{BookError, Cue, Due, Field, RawAnswer, RawCue, RawField, RawPart, CUES_MAX, CUE_MAX, ORDINAL_MAX, TITLE_MAX};
+pub use cue_book::{BookError, Cue, Due, Field, RawCue, RawField, RawPart, CUES_MAX, CUE_MAX, ORDINAL_MAX, TITLE_MAX};
 pub use find::{find, find_all, find_raw, Finding, Method, RawFinding};
+pub use late_cuts::{relist, relist_all, relist_raw};
 pub use moves::{find_moves, find_moves_all, find_moves_raw, Move, MovesFinding, RawMovesFinding, Rule, MOVE_ENTRIES};
-pub use refusal::Refusal;
+pub use refusal::{RawAnswer, Refusal};
 pub use resolver::{resolve, resolve_all, resolve_raw};
 pub use resolver::{CuePlace, ResolveError, ResolverMemory, CUE_ENTRIES, PHRASE_BUFFER, RESOLVER_SCRATCH};
 

@@ -4,7 +4,7 @@ use std::error::Error;
 use std::fmt;
 
 /// Why a call was refused. The library tests in the order of the numbers, and the first that applies is returned; only 7 to 9 come as a book is
-/// read.
+/// read, and [`relist`](crate::relist) tests the new text's length last.
 #[derive(Clone, Copy, Debug, PartialEq, Eq, Hash)]
 #[repr(u32)]
 pub enum Refusal {
@@ -14,7 +14,7 @@ pub enum Refusal {
     NoPhrase = 2,
     /// The phrase has more than 1,024 bytes.
     LongPhrase = 3,
-    /// The text has more than 32,768 bytes.
+    /// The text, or the new text of a cut, has more than 32,768 bytes.
     LongText = 4,
     /// The scratch has fewer entries than the method or the resolver needs.
     ShortScratch = 5,
@@ -34,10 +34,14 @@ pub enum Refusal {
     NoOccurrence = 12,
     /// A cue to be written is longer than its buffer.
     LongCue = 13,
+    /// A stretch ends before it starts, or past the text.
+    BadStretch = 17,
+    /// A list does not strictly rise, or holds a place where the phrase would pass the text's end.
+    BadList = 18,
 }
 
 impl Refusal {
-    /// The refusal's number, from 1 to 13.
+    /// The refusal's number.
     pub const fn number(self) -> u32 {
         self as u32
     }
@@ -64,6 +68,8 @@ impl Refusal {
             11 => Some(Refusal::ShortEntries),
             12 => Some(Refusal::NoOccurrence),
             13 => Some(Refusal::LongCue),
+            17 => Some(Refusal::BadStretch),
+            18 => Some(Refusal::BadList),
             _ => None,
         }
     }
@@ -93,11 +99,23 @@ impl fmt::Display for Refusal {
             Refusal::ShortEntries => "the cue entries are fewer than 3 for each cue",
             Refusal::NoOccurrence => "the cue's occurrence does not exist",
             Refusal::LongCue => "the cue to be written is longer than its buffer",
+            Refusal::BadStretch => "the stretch ends before it starts, or past the text",
+            Refusal::BadList => "the list does not strictly rise, or holds a place where the phrase would pass the text's end",
         })
     }
 }
 
 impl Error for Refusal {}
+
+/// What a call gives back that answers with one number, as it stands in the C interface.
+#[derive(Clone, Copy, Debug, PartialEq, Eq, Hash)]
+#[repr(C)]
+pub struct RawAnswer {
+    /// The refusal's number; 0 if the call was not refused.
+    pub refusal: u32,
+    /// A total of places, a number of cues or of bytes, or a cue's index; each function names it.
+    pub number: u32,
+}
 
 #[cfg(test)]
 mod tests {
@@ -105,12 +123,12 @@ mod tests {
 
     #[test]
     fn refusals_have_their_numbers_and_sentences() {
-        for number in 1..=13 {
+        for number in (1..=13).chain(17..=18) {
             let refusal = Refusal::from_number(number).unwrap();
             assert_eq!(refusal.number(), number);
             assert!(!refusal.to_string().is_empty());
         }
-        for number in [0, 14, u32::MAX] {
+        for number in [0, 14, 15, 16, 19, u32::MAX] {
             assert_eq!(Refusal::from_number(number), None);
         }
     }

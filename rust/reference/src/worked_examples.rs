@@ -1,9 +1,10 @@
-//! The worked examples of document 01, "The finder program" and "Refrains to try", and of document 02, (ii), (v), (x) and (xi), and the tests that
-//! books, cues and lent memory meet.
+//! The worked examples of document 01, "The finder program" and "Refrains to try", and of document 02, (ii), (v), (x), (xi) and (xiii), and the tests
+//! that books, cues and lent memory meet.
 
 use crate::{boyer_moore, double_window, fjs, horspool, improved_fjs, kmp, sunday};
 use crate::{cues, read_book, read_cue, read_due, read_field, title, write_cue, Cue, Field};
 use crate::{endings, find, find_moves, finder_output, fold, fold_text, line_and_column, max_shift_table, resolve, widest_gap};
+use crate::{new_text, relist};
 
 /// Total, comparisons and places by a method, with memory enough.
 fn found(method: u32, phrase: &[u8], text: &[u8]) -> (u32, u32, Vec<u32>) {
@@ -696,6 +697,238 @@ fn moves_of_all_short_phrases_and_texts() {
             assert_eq!(within, looked_at, "{case}");
 
             assert_eq!(moves, moves_by_windows(&phrase, text), "{case}");
+        }
+    }
+}
+
+/// The places after a late cut that is not refused, with memory enough, since no place of the new text is listed twice.
+fn relisted(phrase: &[u8], text: &[u8], list: &[u32], start: usize, end: usize, letters: &[u8]) -> Vec<u32> {
+    let mut answer = vec![7; text.len() + letters.len()];
+    let (refusal, total) = relist(phrase, text, list, start, end, letters, &mut answer);
+    assert_eq!(refusal, 0);
+    assert_eq!(answer[total as usize..], vec![7; answer.len() - total as usize]);
+    answer.truncate(total as usize);
+    answer
+}
+
+#[test]
+fn texts_after_a_cut() {
+    assert_eq!(new_text(b"la la", 3, 5, b"so"), b"la so");
+    assert_eq!(new_text(b"la la", 2, 3, b""), b"lala");
+    assert_eq!(new_text(b"la la", 2, 2, b"h"), b"lah la");
+    assert_eq!(new_text(b"la la", 0, 0, b"o "), b"o la la");
+    assert_eq!(new_text(b"la la", 5, 5, b"!"), b"la la!");
+    assert_eq!(new_text(b"la la", 0, 5, b""), b"");
+    assert_eq!(new_text(b"", 0, 0, b""), b"");
+}
+
+/// la stands at 0, 3 and 6 of the old text. The stretch is the second la, or one letter of it.
+#[test]
+fn cuts_of_a_refrain() {
+    let cut = |start, end, letters: &[u8]| relisted(b"la", b"la la la", &[0, 3, 6], start, end, letters);
+    // The one at 3 drops out. The others keep their places, since the length is as before.
+    assert_eq!(cut(3, 5, b"so"), [0, 6]);
+    assert_eq!(cut(3, 4, b"t"), [0, 6]);
+    assert_eq!(cut(4, 5, b"o"), [0, 6]);
+    // It drops out and is found afresh, in the new letters or with one letter on either side.
+    assert_eq!(cut(3, 5, b"la"), [0, 3, 6]);
+    assert_eq!(cut(3, 4, b"l"), [0, 3, 6]);
+    assert_eq!(cut(4, 5, b"a"), [0, 3, 6]);
+    // la tra la la: 4 letters more. la so so so la: 6 letters more. la o la: 1 letter less.
+    assert_eq!(cut(3, 5, b"tra la"), [0, 7, 10]);
+    assert_eq!(cut(3, 5, b"so so so"), [0, 12]);
+    assert_eq!(cut(3, 5, b"o"), [0, 5]);
+}
+
+#[test]
+fn cuts_that_make_one_across_the_seam() {
+    // l-a la without the hyphen is la la; the one at 4 moves by −1.
+    assert_eq!(relisted(b"la", b"l-a la", &[4], 1, 2, b""), [0, 3]);
+    // From lo la and from sa la to la la: the new letter is the last or the first of the phrase.
+    assert_eq!(relisted(b"la", b"lo la", &[3], 1, 2, b"a"), [0, 3]);
+    assert_eq!(relisted(b"la", b"sa la", &[3], 0, 1, b"l"), [0, 3]);
+    // Across both seams: aca becomes aba.
+    assert_eq!(relisted(b"aba", b"aca", &[], 1, 2, b"b"), [0]);
+    // The phrase is longer than the old text, and not longer than the new one.
+    assert_eq!(relisted(b"lalala", b"la", &[], 1, 1, b"alal"), [0]);
+}
+
+#[test]
+fn insertions() {
+    let insertion = |place, letters: &[u8]| relisted(b"la", b"la la", &[0, 3], place, place, letters);
+    // Inside the one at 0, which drops out: l-a la.
+    assert_eq!(insertion(1, b"-"), [4]);
+    // Just after it, where it stays: lah la.
+    assert_eq!(insertion(2, b"h"), [0, 4]);
+    // Just before the one at 3, which moves: la la la.
+    assert_eq!(insertion(3, b"la "), [0, 3, 6]);
+    // At the text's front and at its end: la la la, la lala.
+    assert_eq!(insertion(0, b"la "), [0, 3, 6]);
+    assert_eq!(insertion(5, b"la"), [0, 3, 5]);
+    // Into the empty text.
+    assert_eq!(relisted(b"la", b"", &[], 0, 0, b"lala"), [0, 2]);
+}
+
+#[test]
+fn removals_at_the_front_and_at_the_end() {
+    let removal = |start, end| relisted(b"la", b"la la", &[0, 3], start, end, b"");
+    // a la, then la, then a.
+    assert_eq!(removal(0, 1), [2]);
+    assert_eq!(removal(0, 3), [0]);
+    assert_eq!(removal(0, 4), []);
+    // la l, then la, then l.
+    assert_eq!(removal(4, 5), [0]);
+    assert_eq!(removal(2, 5), [0]);
+    assert_eq!(removal(1, 5), []);
+    // The whole text, and a text that is one occurrence of one letter.
+    assert_eq!(removal(0, 5), []);
+    assert_eq!(relisted(b"a", b"a", &[0], 0, 1, b""), []);
+}
+
+/// Where the phrase crosses the seam, it drops out and is found afresh.
+#[test]
+fn empty_stretches_without_new_letters() {
+    for place in 0..=5 {
+        assert_eq!(relisted(b"la", b"la la", &[0, 3], place, place, b""), [0, 3], "place {place}");
+        assert_eq!(relisted(b"aba", b"ababa", &[0, 2], place, place, b""), [0, 2], "place {place}");
+    }
+    assert_eq!(relisted(b"a", b"", &[], 0, 0, b""), []);
+}
+
+/// aba stands at 0 and at 2 of ababa; both have the a at 2.
+#[test]
+fn cuts_of_overlapping_occurrences() {
+    let replaced = |place: usize, letters: &[u8]| relisted(b"aba", b"ababa", &[0, 2], place, place + 1, letters);
+    // Both drop out: abbba. Both are found afresh: ababa.
+    assert_eq!(replaced(2, b"b"), []);
+    assert_eq!(replaced(2, b"a"), [0, 2]);
+    // One drops out: bbaba and aaaba keep the one at 2, abaaa and ababb the one at 0.
+    assert_eq!(replaced(0, b"b"), [2]);
+    assert_eq!(replaced(1, b"a"), [2]);
+    assert_eq!(replaced(3, b"a"), [0]);
+    assert_eq!(replaced(4, b"b"), [0]);
+    // abababa: found afresh at 0 and 2, in a before, bab, and ab after; the one at 2 moves to 4.
+    assert_eq!(replaced(1, b"bab"), [0, 2, 4]);
+    // Without the a at 2 it is abba, without the b at 1 aaba, in which the one at 2 has moved to 1.
+    assert_eq!(replaced(2, b""), []);
+    assert_eq!(replaced(1, b""), [1]);
+}
+
+/// No letter on either side is looked at.
+#[test]
+fn cuts_for_a_phrase_of_one_letter() {
+    assert_eq!(relisted(b"a", b"aba", &[0, 2], 1, 2, b"a"), [0, 1, 2]);
+    assert_eq!(relisted(b"a", b"aba", &[0, 2], 1, 2, b"bab"), [0, 2, 4]);
+    assert_eq!(relisted(b"a", b"aba", &[0, 2], 1, 2, b""), [0, 1]);
+    assert_eq!(relisted(b"a", b"aba", &[0, 2], 0, 3, b"b"), []);
+}
+
+/// The rule alone: no place that stays or moves is tested for an occurrence, and none is looked for beyond m − 1 letters.
+#[test]
+fn cuts_of_other_accepted_lists() {
+    let cut = |list: &[u32], letters: &[u8]| relisted(b"la", b"la la la", list, 3, 5, letters);
+    // 0 and 1 end before the stretch; 2, 3 and 4 touch it; 5 and 6 start at its end or after it. la so la, then la lala la.
+    let all = [0, 1, 2, 3, 4, 5, 6];
+    assert_eq!(cut(&all, b"so"), [0, 1, 5, 6]);
+    assert_eq!(cut(&all, b"lala"), [0, 1, 3, 5, 7, 8]);
+    assert_eq!(cut(&all, b""), [0, 1, 3, 4]);
+    // Occurrences that the list lacks: those at 0 and 6 of the old text are not looked for, those in the new letters are found.
+    assert_eq!(cut(&[], b"lala"), [3, 5]);
+    assert_eq!(cut(&[1, 4, 5], b"lala"), [1, 3, 5, 7]);
+    // The occurrence at the stretch is found afresh also where the list lacks it and nothing is changed.
+    assert_eq!(cut(&[], b"la"), [3]);
+    assert_eq!(relisted(b"la", b"la la la", &[], 4, 4, b""), [3]);
+}
+
+/// The places are 0, 7 and 10. Entries past those written keep their values, and the total is full.
+#[test]
+fn short_answers() {
+    for length in 0..=5 {
+        let mut answer = [90, 91, 92, 93, 94, 95];
+        assert_eq!(relist(b"la", b"la la la", &[0, 3, 6], 3, 5, b"tra la", &mut answer[..length]), (0, 3));
+        let written = length.min(3);
+        assert_eq!(answer[..written], [0, 7, 10][..written]);
+        assert_eq!(answer[written..], [90, 91, 92, 93, 94, 95][written..], "length {length}");
+    }
+}
+
+#[test]
+fn cuts_at_the_limits() {
+    // The longest phrase with m − 1 letters on either side, and with m, where one stays and one moves.
+    let phrase = [b'a'; 1024];
+    let text = [vec![b'a'; 1023], vec![b'x'], vec![b'a'; 1023]].concat();
+    assert_eq!(relisted(&phrase, &text, &[], 1023, 1024, b""), (0..1023).collect::<Vec<u32>>());
+    let text = [vec![b'a'; 1024], vec![b'x'], vec![b'a'; 1024]].concat();
+    assert_eq!(relisted(&phrase, &text, &[0, 1025], 1024, 1025, b""), (0..1025).collect::<Vec<u32>>());
+    assert_eq!(relisted(&phrase, &text, &[0, 1025], 1024, 1025, b"b"), [0, 1025]);
+    // The longest texts, by a cut at the front, at the end and of the whole.
+    let letters = [b'a'; 32_768];
+    let all: Vec<u32> = (0..32_768).collect();
+    assert_eq!(relisted(b"a", &letters, &all, 0, 1, b"a"), all);
+    assert_eq!(relisted(b"a", &letters[..32_767], &all[..32_767], 0, 0, b"a"), all);
+    assert_eq!(relisted(b"a", &letters[..32_767], &all[..32_767], 32_767, 32_767, b"a"), all);
+    assert_eq!(relisted(b"a", b"", &[], 0, 0, &letters), all);
+    assert_eq!(relisted(b"a", &letters, &all, 0, 32_768, &letters), all);
+    assert_eq!(relisted(b"a", &letters, &all, 0, 32_767, b""), [0]);
+}
+
+/// The refusals in their order, each met by a call that would also meet the later ones where it can. The answer stays as it was.
+#[test]
+fn refused_cuts() {
+    let long = [b'a'; 32_769];
+    let refused = |phrase: &[u8], text: &[u8], list: &[u32], start: usize, end: usize, letters: &[u8]| {
+        let mut answer = [7; 3];
+        let given = relist(phrase, text, list, start, end, letters, &mut answer);
+        assert_eq!(answer, [7; 3]);
+        given
+    };
+    assert_eq!(refused(b"", &long, &[3, 0], 2, 1, &long), (2, 0));
+    assert_eq!(refused(&long[..1025], &long, &[3, 0], 2, 1, &long), (3, 0));
+    assert_eq!(refused(&long[..1024], &long, &[3, 0], 2, 1, &long), (4, 0));
+    // The old text is too long, also where the cut would make it short enough.
+    assert_eq!(refused(b"la", &long, &[], 0, 32_769, b""), (4, 0));
+
+    // The stretch ends before it starts, or past the text, also where it is empty.
+    let most = usize::MAX;
+    for (start, end) in [(2, 1), (5, 0), (most, 0), (most, most - 1), (0, 6), (5, 6), (6, 6), (7, 6), (6, 5), (0, most), (most, most)] {
+        assert_eq!(refused(b"la", b"la la", &[3, 0], start, end, &long), (17, 0), "from {start} to {end}");
+        assert_eq!(refused(b"la", b"la la", &[0, 3], start, end, b""), (17, 0), "from {start} to {end}");
+    }
+
+    // The list does not rise, at its front or at its end, or the phrase would pass the end: from 4 it needs 6 letters, and the text has 5. Places
+    // that would drop out are tested too.
+    let lists: [&[u32]; 9] = [&[3, 0], &[3, 3], &[0, 0, 3], &[0, 3, 2], &[4], &[0, 4], &[0, 3, u32::MAX], &[u32::MAX], &[u32::MAX, u32::MAX]];
+    for list in lists {
+        for (start, end) in [(0, 0), (0, 5), (3, 5), (5, 5)] {
+            assert_eq!(refused(b"la", b"la la", list, start, end, &long), (18, 0), "{list:?} from {start} to {end}");
+            assert_eq!(refused(b"la", b"la la", list, start, end, b""), (18, 0), "{list:?} from {start} to {end}");
+        }
+    }
+    // The phrase is longer than the old text, which then has no place for it; the new text would have.
+    assert_eq!(refused(b"la", b"l", &[0], 1, 1, b"a"), (18, 0));
+    assert_eq!(relisted(b"la", b"l", &[], 1, 1, b"a"), [0]);
+
+    // The new text is too long.
+    assert_eq!(refused(b"la", b"la la", &[0, 3], 0, 5, &long), (4, 0));
+    assert_eq!(refused(b"la", b"", &[], 0, 0, &long), (4, 0));
+    assert_eq!(refused(b"a", &long[..32_768], &[0, 1], 0, 0, b"a"), (4, 0));
+    assert_eq!(refused(b"a", &long[..32_768], &[0, 1], 32_767, 32_768, b"aa"), (4, 0));
+}
+
+/// Given the old text's list, the answer is the new text's list.
+#[test]
+fn cuts_of_all_short_texts() {
+    let replacements: Vec<Vec<u8>> = (0..=2).flat_map(words).collect();
+    for text in (0..=5).flat_map(words) {
+        for phrase in (1..=3).flat_map(words) {
+            let (_, _, list) = found(0, &phrase, &text);
+            for (start, end) in (0..=text.len()).flat_map(|start| (start..=text.len()).map(move |end| (start, end))) {
+                for letters in &replacements {
+                    let (_, _, places) = found(0, &phrase, &new_text(&text, start, end, letters));
+                    let case = format!("{phrase:?} in {text:?}, from {start} to {end}, {letters:?}");
+                    assert_eq!(relisted(&phrase, &text, &list, start, end, letters), places, "{case}");
+                }
+            }
         }
     }
 }

@@ -1,7 +1,9 @@
 //! The program `vectors`: the file that the gate holds its output to is built again here from the reference alone, case by case in the program's order.
 
 use libretto_tests::programs::repository;
-use reference::{delta1_table, delta2_table, endings, find, horspool_table, kmp_table, line_and_column, max_shift_table, sunday_table, widest_gap};
+use reference::{
+    delta1_table, delta2_table, endings, find, horspool_table, kmp_table, line_and_column, max_shift_table, relist, sunday_table, widest_gap,
+};
 use std::fmt::Display;
 use std::fs;
 use std::ops::Range;
@@ -125,6 +127,19 @@ fn improved() -> String {
     figure_2.into_iter().chain(moves).chain(more).map(|(pattern, text)| case(7, pattern, text, ROOM)).collect()
 }
 
+/// Request (xiii) of document 02: a late cut of three refrains, and an answer of four.
+fn cut(start: usize, end: usize, letters: &str) -> String {
+    let mut answer = [9; 4];
+    let (refusal, total) = relist(b"la", b"la la la", &[0, 3, 6], start, end, letters.as_bytes(), &mut answer);
+    line(&format!("cut with {letters} {start} {end}"), [refusal, total].into_iter().chain(answer))
+}
+
+fn cuts() -> String {
+    let inside = [cut(3, 5, "so"), cut(3, 5, "la"), cut(4, 4, "-"), cut(1, 7, ""), cut(0, 3, ""), cut(8, 8, " la"), cut(2, 6, " la la la ")];
+    let refused = [cut(5, 3, ""), cut(3, 9, "")];
+    inside.concat() + &refused.concat()
+}
+
 /// A text by its bytes: letters, and the numbers of those that end lines.
 fn by_bytes(text: &str) -> String {
     text.chars().map(|letter| if letter < ' ' { format!(" {}", letter as u32) } else { format!(" {letter}") }).collect()
@@ -168,7 +183,7 @@ fn the_expected_output() {
     let engines = [0, 4, 256, 256, 260, 256, 259, 264].into_iter().zip(0..).map(|(enough, method)| engine(method, enough));
     let tables = [tables(), delta2_tables(), max_shift_tables()].concat();
     let finds = [engines.collect(), case(8, "aba", "ababa", ROOM), kmp_bound(), boyer_moore(), improved()].concat();
-    let due = [tables, finds, line_rule()].concat();
+    let due = [tables, finds, cuts(), line_rule()].concat();
 
     let (mut held_lines, mut due_lines) = (held.lines(), due.lines());
     for number in 1.. {
