@@ -10,7 +10,7 @@ use std::fmt::Debug;
 fn compare_reading<T: Copy + PartialEq + Debug>(book: &[u8], behind: &[u8], case: &str, library: impl FnOnce(&[u8]) -> T, reference: T) -> T {
     let mut shown = Shown::default();
     shown.show(book, behind);
-    let library = library(shown.bytes());
+    let library = library(shown.entries());
     let mut faults = Faults::default();
     faults.when(library != reference, "library and reference differ");
     faults.when(!shown.intact(book, behind), "the book was written");
@@ -53,7 +53,7 @@ pub fn compare_cue(book: &[u8], behind: &[u8], place: usize) -> RawCue {
 pub fn compare_book(book: &[u8], behind: &[u8]) -> RawAnswer {
     let mut shown = Shown::default();
     shown.show(book, behind);
-    let raw = read_book_raw(shown.bytes());
+    let raw = read_book_raw(shown.entries());
     let library = (raw.refusal, raw.number);
     let reference = reference::read_book(book);
 
@@ -61,7 +61,7 @@ pub fn compare_book(book: &[u8], behind: &[u8]) -> RawAnswer {
     faults.when(library != reference, "refusal or number differ");
     // Far off are also the indexes that are small in their lowest 8 or 16 bits.
     for cue in (0..=reference.1 + 1).chain([255, 256, 998, 999, 1000, 65_535, 65_536, 1 << 31, u32::MAX]) {
-        let part = title_raw(shown.bytes(), cue);
+        let part = title_raw(shown.entries(), cue);
         let (library, reference) = ((part.start, part.len), reference::title(book, cue));
         faults.extend((library != reference).then(|| format!("(start, len) of title {cue}: library {library:?}, reference {reference:?}")));
     }
@@ -86,7 +86,7 @@ pub fn compare_write(buffer_len: usize, phrase: &[u8], ordinal: u32, title: &[u8
     shown_title.show(title, phrase);
     buffer.soil(dirty);
     let (library_buffer, reference_buffer) = buffer.lend();
-    let raw = write_cue_raw(library_buffer, shown_phrase.bytes(), ordinal, shown_title.bytes());
+    let raw = write_cue_raw(library_buffer, shown_phrase.entries(), ordinal, shown_title.entries());
     let library = (raw.refusal, raw.number);
     let reference = reference::write_cue(reference_buffer, phrase, ordinal, title);
 

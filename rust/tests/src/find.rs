@@ -9,8 +9,8 @@ use std::ops::RangeInclusive;
 /// Memory for one call of the library and one of the reference, kept between calls.
 #[derive(Default)]
 struct Memory {
-    phrase: Shown,
-    text: Shown,
+    phrase: Shown<u8>,
+    text: Shown<u8>,
     scratch: Lent<u16>,
     list: Lent<u32>,
     moves: Lent<u32>,
@@ -58,7 +58,7 @@ fn compare_calls<const N: usize>(
         let (list, reference_list) = memory.list.lend();
         let (moves, reference_moves) = memory.moves.lend();
 
-        let given = library(memory.phrase.bytes(), memory.text.bytes(), Side { scratch, list, moves });
+        let given = library(memory.phrase.entries(), memory.text.entries(), Side { scratch, list, moves });
         let due = reference(Side { scratch: reference_scratch, list: reference_list, moves: reference_moves });
 
         let mut faults = Faults::default();

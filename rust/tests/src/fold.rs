@@ -12,7 +12,7 @@ pub fn compare_fold(text: &[u8], target_len: usize, seed: u64) -> usize {
     shown.show(text, behind);
     target.soil(dirt(target_len, seed));
     let (library_target, reference_target) = target.lend();
-    let library = fold_text(shown.bytes(), library_target);
+    let library = fold_text(shown.entries(), library_target);
     let reference = reference::fold_text(text, reference_target);
 
     let mut faults = Faults::default();

@@ -1,5 +1,5 @@
 //! Memory for compared calls: lent memory, dirty before the call and with guards on both sides, once for the library and once for the reference; and
-//! shown bytes, which a call may only read.
+//! shown memory, which a call may only read.
 
 use crate::Random;
 use std::fmt::Debug;
@@ -12,7 +12,7 @@ const GUARDS: usize = 8;
 const DIRT: usize = 100_000;
 const OFFSETS: usize = 4096;
 
-/// An entry of lent memory: a number of 8, 16 or 32 bits.
+/// An entry of lent or shown memory: a number of 8, 16 or 32 bits.
 pub(crate) trait Entry: Copy + PartialEq + Debug + 'static {
     fn low_bits(number: u64) -> Self;
 
@@ -100,31 +100,31 @@ impl<T: Entry> Lent<T> {
     }
 }
 
-/// Bytes that a call may only read, between guards and bytes that a read past them would take for more of the same.
+/// Entries that a call may only read, between guards and entries that a read past them would take for more of the same.
 #[derive(Default)]
-pub(crate) struct Shown {
-    memory: Vec<u8>,
+pub(crate) struct Shown<T> {
+    memory: Vec<T>,
     end: usize,
 }
 
-impl Shown {
-    pub(crate) fn show(&mut self, bytes: &[u8], behind: &[u8]) {
-        let [front, _] = guards::<u8>();
+impl<T: Entry> Shown<T> {
+    pub(crate) fn show(&mut self, entries: &[T], behind: &[T]) {
+        let [front, _] = guards::<T>();
         self.memory.clear();
         self.memory.extend(front);
-        self.memory.extend_from_slice(bytes);
+        self.memory.extend_from_slice(entries);
         self.end = self.memory.len();
         self.memory.extend_from_slice(behind);
     }
 
-    /// The bytes that the call is given.
-    pub(crate) fn bytes(&self) -> &[u8] {
+    /// The entries that the call is given.
+    pub(crate) fn entries(&self) -> &[T] {
         &self.memory[GUARDS..self.end]
     }
 
     /// Whether all is as it was shown.
-    pub(crate) fn intact(&self, bytes: &[u8], behind: &[u8]) -> bool {
-        let [front, _] = guards::<u8>();
-        self.memory[..GUARDS].iter().copied().eq(front) && self.bytes() == bytes && &self.memory[self.end..] == behind
+    pub(crate) fn intact(&self, entries: &[T], behind: &[T]) -> bool {
+        let [front, _] = guards::<T>();
+        self.memory[..GUARDS].iter().copied().eq(front) && self.entries() == entries && &self.memory[self.end..] == behind
     }
 }

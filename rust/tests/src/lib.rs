@@ -9,6 +9,7 @@ pub mod books;
 mod cue_book;
 mod find;
 mod fold;
+mod late_cuts;
 mod lent;
 pub mod programs;
 mod resolver;
@@ -19,6 +20,7 @@ pub mod xml;
 pub use cue_book::{compare_book, compare_cue, compare_field, compare_write};
 pub use find::{compare, compare_moves, needed, METHODS};
 pub use fold::compare_fold;
+pub use late_cuts::{compare_relists, Cut};
 pub use resolver::{compare_resolve, Lengths};
 pub use words::Random;
 

@@ -31,8 +31,8 @@ impl Lengths {
 /// Memory for one call of the library and one of the reference, kept between calls.
 #[derive(Default)]
 struct Memory {
-    book: Shown,
-    text: Shown,
+    book: Shown<u8>,
+    text: Shown<u8>,
     copy: Lent<u8>,
     phrase: Lent<u8>,
     scratch: Lent<u16>,
@@ -77,7 +77,7 @@ impl Memory {
         let (phrase, reference_phrase) = self.phrase.lend();
         let (scratch, reference_scratch) = self.scratch.lend();
         let (entries, reference_entries) = self.entries.lend();
-        let raw = resolve_raw(self.book.bytes(), self.text.bytes(), &mut ResolverMemory { copy, phrase, scratch, entries });
+        let raw = resolve_raw(self.book.entries(), self.text.entries(), &mut ResolverMemory { copy, phrase, scratch, entries });
         (raw, reference::resolve(book, text, reference_copy, reference_phrase, reference_scratch, reference_entries))
     }
 
