@@ -14,7 +14,7 @@ const BUILDS: [(&str, &[&str]); 3] = [
 ];
 
 /// The files of `c/` and the function that each defines.
-const TWINS: [(&str, &str); 11] = [
+const TWINS: [(&str, &str); 12] = [
     ("naive", "twin_naive"),
     ("kmp", "twin_kmp"),
     ("horspool", "twin_horspool"),
@@ -25,6 +25,7 @@ const TWINS: [(&str, &str); 11] = [
     ("improved_fjs", "twin_improved_fjs"),
     ("fjs_moves", "twin_fjs_moves"),
     ("memmem", "twin_memmem"),
+    ("late_cuts", "twin_relist"),
     ("cue_book", "twin_read_book"),
 ];
 

@@ -1,8 +1,8 @@
-/* The library's eight engines and its book reader written again in plain C, from the steps of documents 01 and 02, to measure the library against.
+/* The library's eight engines, its late cuts and its book reader written again in plain C, from the steps of documents 01 and 02, to measure the library against.
  *
  * Each twin takes the memory that the library is lent and leaves it the same: its tables at the scratch's front, the first places in the list. What
  * the library refuses is not tested here: the phrase has 1 to 1,024 bytes, the text at most 32,768, the scratch is long enough, and nothing overlaps.
- * The book reader is the exception: its refusals are its work.
+ * The book reader is the exception: its refusals are its work; so is the test of a late cut's list.
  */
 #ifndef TWINS_H
 #define TWINS_H
@@ -45,10 +45,14 @@ struct twin_moves_finding twin_fjs_moves(const uint8_t *phrase, size_t m, const 
 /* Every place of the phrase by glibc's memmem, called again one letter after each place; it counts no comparisons and gives the total. */
 uint32_t twin_memmem(const uint8_t *phrase, size_t m, const uint8_t *text, size_t n, uint32_t *restrict list, size_t list_len);
 
-/* A refusal or 0, and the number of cues or the index of the refused cue. */
+/* A refusal or 0, and a number: of places, of cues, or the index of the refused cue. */
 struct twin_answer {
     uint32_t refusal, number;
 };
+
+/* A phrase's list after a late cut: a refusal of the list or 0, and the total. */
+struct twin_answer twin_relist(const uint8_t *phrase, size_t m, const uint8_t *text, size_t n, const uint32_t *list, size_t list_len, size_t start,
+                               size_t end, const uint8_t *letters, size_t letters_len, uint32_t *restrict lent, size_t lent_len);
 
 struct twin_answer twin_read_book(const uint8_t *book, size_t book_len);
 

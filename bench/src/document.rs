@@ -31,6 +31,7 @@ pub fn page(results: &Results, date: &str, processor: &str, seconds: u64) -> Str
         others(results),
         tables(results),
         moves(results),
+        cuts(results),
         books(results),
         growth(results),
         how_measured(results),
@@ -207,6 +208,28 @@ fn moves(results: &Results) -> String {
     format!(
         "## With a list of moves\n\n\
          FJS with a list that has room for all moves, in all classes, the library as linked and the best build of C.\n\n{}",
+        table.markdown()
+    )
+}
+
+fn cuts(results: &Results) -> String {
+    let mut table = Table::new(["phrases (places)", "stretch", "new letters", "all calls", "over C", "over a find by method 4"]);
+    for cut in &results.cuts {
+        let times = &cut.times;
+        table.row([
+            format!("{} ({})", cut.kind.name(), grouped(cut.places)),
+            grouped(cut.lengths.0),
+            grouped(cut.lengths.1),
+            format!("{:.1} µs", times.library / 1e3),
+            format!("{:.2}", times.library / times.twin),
+            format!("{:.2}", times.library / times.finding),
+        ]);
+    }
+    format!(
+        "## Late cuts\n\n\
+         The lists of three phrases of a kind after a cut in the middle of 32,568 letters of verse, the library as linked and the best build of C, \
+         and the library's find of the same phrases in the new text. A row has the time of a call for each of its phrases, all together; a call looks \
+         at the whole list, and at the text around the stretch alone.\n\n{}",
         table.markdown()
     )
 }

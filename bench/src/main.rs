@@ -8,6 +8,7 @@ mod books;
 mod charts;
 mod check;
 mod clock;
+mod cuts;
 mod date;
 mod document;
 mod finds;

@@ -4,6 +4,7 @@
 use crate::books::{self, BookTimes, Libretto};
 use crate::check::Checker;
 use crate::clock::{rounds, Side};
+use crate::cuts::{self, CutTimes};
 use crate::finds::{self, ClassTimes};
 use crate::growth;
 use crate::lent::Lent;
@@ -28,6 +29,8 @@ pub struct Results {
     pub classes: Vec<ClassResult>,
     /// Tables alone, by the phrase's length: the times of each engine.
     pub tables: Vec<(usize, Vec<EngineTimes>)>,
+    /// Late cuts.
+    pub cuts: Vec<CutResult>,
     /// Cue books.
     pub books: Vec<BookResult>,
     /// A text of 32,768 bytes folded, in nanoseconds.
@@ -54,6 +57,18 @@ pub struct ClassResult {
     pub times: ClassTimes,
 }
 
+/// A late cut with its times.
+pub struct CutResult {
+    /// The kind of the phrases.
+    pub kind: Kind,
+    /// The letters of the stretch and of what comes in its place.
+    pub lengths: (usize, usize),
+    /// The places of all phrases in the old text.
+    pub places: usize,
+    /// Its times.
+    pub times: CutTimes,
+}
+
 /// A book with its times.
 pub struct BookResult {
     /// The lengths of its phrases, in words.
@@ -78,11 +93,12 @@ pub fn everything() -> Results {
     let mut lent = Lent::dirty(&mut Random::new(2));
     let classes = finds(&mut checker, &mut lent);
     let tables = tables(&mut checker, &mut lent);
+    let cuts = cuts(&mut lent);
     let (books, folding) = books(&mut lent);
     let texts = growth::texts();
     let by_n = grown(&texts, growth::cases_by_n, &mut checker, &mut lent);
     let by_m = grown(&texts, growth::cases_by_m, &mut checker, &mut lent);
-    Results { classes, tables, books, folding, by_n, by_m, checked: checker.checked() }
+    Results { classes, tables, cuts, books, folding, by_n, by_m, checked: checker.checked() }
 }
 
 fn finds(checker: &mut Checker, lent: &mut Lent) -> Vec<ClassResult> {
@@ -111,6 +127,23 @@ fn tables(checker: &mut Checker, lent: &mut Lent) -> Vec<(usize, Vec<EngineTimes
         contests.iter_mut().for_each(|contest| contest.run(ROUNDS, lent));
     }
     tables::LENGTHS.into_iter().zip(contests.iter().map(tables::Contest::times)).collect()
+}
+
+fn cuts(lent: &mut Lent) -> Vec<CutResult> {
+    let cuts = cuts::cuts();
+    cuts.iter().for_each(|cut| cut.check(lent));
+    let mut contests: Vec<cuts::Contest> = cuts.iter().map(cuts::Contest::new).collect();
+    eprintln!("late cuts");
+    for _ in 0..PASSES {
+        contests.iter_mut().for_each(|contest| contest.run(ROUNDS, lent));
+    }
+    let result = |(cut, contest): (&cuts::Cut, &cuts::Contest)| CutResult {
+        kind: cut.kind,
+        lengths: cut.lengths,
+        places: cut.places(),
+        times: contest.times(),
+    };
+    cuts.iter().zip(&contests).map(result).collect()
 }
 
 fn books(lent: &mut Lent) -> (Vec<BookResult>, f64) {

@@ -4,6 +4,7 @@
 
 use crate::lent::Lent;
 use libretto::{Method, RawFinding, PHRASE_MAX, TEXT_MAX};
+use std::ops::Range;
 
 /// What an engine's twin gives back.
 #[derive(Clone, Copy, Debug, PartialEq, Eq)]
@@ -25,30 +26,33 @@ pub struct TwinMovesFinding {
     pub moves: u32,
 }
 
-/// What the book reader's twin gives back.
+/// What the twins of the book reader and of late cuts give back.
 #[derive(Clone, Copy, Debug, PartialEq, Eq)]
 #[repr(C)]
 pub struct TwinAnswer {
     /// The refusal's number, or 0.
     pub refusal: u32,
-    /// The number of cues, or the index of the refused cue.
+    /// A number of places or of cues, or the index of the refused cue.
     pub number: u32,
 }
 
 type Find = unsafe extern "C" fn(*const u8, usize, *const u8, usize, *mut u16, *mut u32, usize) -> TwinFinding;
 type FindMoves = unsafe extern "C" fn(*const u8, usize, *const u8, usize, *mut u16, *mut u32, usize, *mut u32, usize) -> TwinMovesFinding;
+type Relist =
+    unsafe extern "C" fn(*const u8, usize, *const u8, usize, *const u32, usize, usize, usize, *const u8, usize, *mut u32, usize) -> TwinAnswer;
 type ReadBook = unsafe extern "C" fn(*const u8, usize) -> TwinAnswer;
 
 /// The twins compiled with one placement of code.
 pub struct Build {
     finds: [Find; 8],
     find_moves: FindMoves,
+    relist: Relist,
     read_book: ReadBook,
 }
 
 /// Declares the functions of each build and lists the builds.
 macro_rules! builds {
-    ($($read_book:ident $find_moves:ident: $($find:ident)*;)*) => {
+    ($($read_book:ident $relist:ident $find_moves:ident: $($find:ident)*;)*) => {
         extern "C" {
             $(
                 $(fn $find(phrase: *const u8, m: usize, text: *const u8, n: usize, scratch: *mut u16, list: *mut u32, list_len: usize) -> TwinFinding;)*
@@ -63,19 +67,33 @@ macro_rules! builds {
                     moves: *mut u32,
                     moves_len: usize,
                 ) -> TwinMovesFinding;
+                fn $relist(
+                    phrase: *const u8,
+                    m: usize,
+                    text: *const u8,
+                    n: usize,
+                    list: *const u32,
+                    list_len: usize,
+                    start: usize,
+                    end: usize,
+                    letters: *const u8,
+                    letters_len: usize,
+                    lent: *mut u32,
+                    lent_len: usize,
+                ) -> TwinAnswer;
                 fn $read_book(book: *const u8, book_len: usize) -> TwinAnswer;
             )*
         }
 
         /// The builds that `build.rs` makes. The best of them stands for C.
-        pub static BUILDS: [Build; 3] = [$(Build { finds: [$($find),*], find_moves: $find_moves, read_book: $read_book }),*];
+        pub static BUILDS: [Build; 3] = [$(Build { finds: [$($find),*], find_moves: $find_moves, relist: $relist, read_book: $read_book }),*];
     };
 }
 
 builds! {
-    twin_read_book_plain twin_fjs_moves_plain: twin_naive_plain twin_kmp_plain twin_horspool_plain twin_sunday_plain twin_fjs_plain twin_double_window_plain twin_boyer_moore_plain twin_improved_fjs_plain;
-    twin_read_book_wide twin_fjs_moves_wide: twin_naive_wide twin_kmp_wide twin_horspool_wide twin_sunday_wide twin_fjs_wide twin_double_window_wide twin_boyer_moore_wide twin_improved_fjs_wide;
-    twin_read_book_packed twin_fjs_moves_packed: twin_naive_packed twin_kmp_packed twin_horspool_packed twin_sunday_packed twin_fjs_packed twin_double_window_packed twin_boyer_moore_packed twin_improved_fjs_packed;
+    twin_read_book_plain twin_relist_plain twin_fjs_moves_plain: twin_naive_plain twin_kmp_plain twin_horspool_plain twin_sunday_plain twin_fjs_plain twin_double_window_plain twin_boyer_moore_plain twin_improved_fjs_plain;
+    twin_read_book_wide twin_relist_wide twin_fjs_moves_wide: twin_naive_wide twin_kmp_wide twin_horspool_wide twin_sunday_wide twin_fjs_wide twin_double_window_wide twin_boyer_moore_wide twin_improved_fjs_wide;
+    twin_read_book_packed twin_relist_packed twin_fjs_moves_packed: twin_naive_packed twin_kmp_packed twin_horspool_packed twin_sunday_packed twin_fjs_packed twin_double_window_packed twin_boyer_moore_packed twin_improved_fjs_packed;
 }
 
 type LibraryFind = unsafe extern "C" fn(u32, *const u8, usize, *const u8, usize, *mut u16, usize, *mut u32, usize) -> RawFinding;
@@ -171,6 +189,30 @@ impl Build {
                 lent.list.len(),
                 lent.moves.as_mut_ptr(),
                 lent.moves.len(),
+            )
+        }
+    }
+
+    /// The twin of a late cut.
+    pub fn relist(&self, phrase: &[u8], text: &[u8], list: &[u32], stretch: Range<usize>, letters: &[u8], lent: &mut [u32]) -> TwinAnswer {
+        assert!((1..=PHRASE_MAX).contains(&phrase.len()) && stretch.start <= stretch.end && stretch.end <= text.len());
+        assert!(text.len() <= TEXT_MAX && text.len() - stretch.len() + letters.len() <= TEXT_MAX);
+        // SAFETY: each pointer comes from a slice and stands beside its own length, the stretch lies within the text, and the exclusive borrow keeps
+        // the answer apart from the rest; all borrows outlive the call, which keeps no pointer. `TwinAnswer` has the layout of the C structure.
+        unsafe {
+            (self.relist)(
+                phrase.as_ptr(),
+                phrase.len(),
+                text.as_ptr(),
+                text.len(),
+                list.as_ptr(),
+                list.len(),
+                stretch.start,
+                stretch.end,
+                letters.as_ptr(),
+                letters.len(),
+                lent.as_mut_ptr(),
+                lent.len(),
             )
         }
     }
