@@ -9,7 +9,8 @@ use std::ops::Range;
 ///
 /// Places of the list whose phrase ends before the stretch stay; those at its end or after it move by the change of length; all others drop out, and
 /// the places where the phrase touches the new letters or crosses their seam are found afresh. So from the old text's list comes the new text's, the
-/// same that [`find`](crate::find) gives. Of another list that is not refused, the places that stay and move are taken as they are.
+/// same that [`find`](crate::find) gives. Of another list that is not refused, the places that stay and move are taken as they are: what a list lacks
+/// that was too short for its total, the answer lacks too, unless it is found afresh.
 ///
 /// Afterwards the answer holds the first places, rising, up to its length; its entries past those keep their values. The total is full also where the
 /// answer is shorter, and a short answer is no refusal. The places are a list that a further call on the new text takes, so cuts can be made one after
