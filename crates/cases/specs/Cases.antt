@@ -25,7 +25,8 @@ use Rattle.boyer_moore.specs.BoyerMoore as bm
 use Rattle.boyer_moore.specs.BoyerMoore.{boyerMoore}
 use Rattle.improved_fjs.specs.ImprovedFjs as improved
 use Rattle.improved_fjs.specs.ImprovedFjs.{improvedFjs}
-use Rattle.late_cuts.specs.LateCuts.{cut, newText, relisted}
+use Rattle.cuts.specs.Cuts.{cut, newText}
+use Rattle.late_cuts.specs.LateCuts.{relisted}
 use Rattle.fold.specs.Fold.{folded}
 use Rattle.cues.specs.Cue.{Cue, cueWith}
 use Rattle.cue_book.specs.Book.{bookBytes}

@@ -15,11 +15,13 @@ use Rattle.matching.specs.Joined.{those, movedUp}
 use Rattle.matching.proofs.CaseAnalysis.{by-test, both}
 use Rattle.matching.proofs.Those.{those-sound}
 use Rattle.matching.proofs.Received.{received-whole}
-use Rattle.late_cuts.specs.LateCuts.{Cut, newText, stays, moves, change, movedBy, around, fresh, relisted, risesFrom, rises, allFit, Relisted}
-use Rattle.late_cuts.proofs.Lists.{rises-lower, rises-from, rises-few, fit-member, all-fit}
+use Rattle.cuts.specs.Cuts.{Cut, newText, risesFrom, rises, allFit}
+use Rattle.cuts.proofs.Lists.{rises-lower, rises-from, rises-few, fit-member, all-fit, occurrences-rising}
+use Rattle.cuts.proofs.Calls.{Taken, length-new, taken}
+use Rattle.late_cuts.specs.LateCuts.{stays, moves, change, movedBy, around, fresh, relisted, Relisted}
 use Rattle.late_cuts.proofs.Signed.{moved-is, moved-inside}
-use Rattle.late_cuts.proofs.Calls.{Taken, length-new, taken, relisted-none, relisted-answer, relisted-listed}
-use Rattle.late_cuts.proofs.NewList.{occurrences-rising, fresh-are}
+use Rattle.late_cuts.proofs.Calls.{relisted-none, relisted-answer, relisted-listed}
+use Rattle.late_cuts.proofs.NewList.{fresh-are}
 
 -- ---- rising places, one list behind another
 

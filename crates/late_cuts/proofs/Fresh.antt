@@ -23,7 +23,8 @@ use Rattle.matching.proofs.Find.{within, none-refused, found-answer, found-list
 use Rattle.naive.specs.Naive.{naive}
 use Rattle.pieces.specs.Pieces.{joined, put, Laid}
 use Rattle.pieces.proofs.Laid.{laid-one, laid-cons, laid-front}
-use Rattle.late_cuts.specs.LateCuts.{cut, fresh}
+use Rattle.cuts.specs.Cuts.{cut}
+use Rattle.late_cuts.specs.LateCuts.{fresh}
 use Rattle.late_cuts.specs.Asked.{Small}
 use Rattle.late_cuts.proofs.Lists.{received-added, received-most}
 

@@ -1,46 +1,28 @@
 -- The theorem of late cuts: given the old text's list, the answer is the new text's list (`new-list`; `new-list-given` and `as-found` for every call), for a phrase of at least one letter
--- and texts of any lengths. The old text's list is never refused with 18 (`old-list-accepted`), and the fresh places are those of the new text that touch the change or its seam
--- (`fresh-are`). Assumes nothing.
+-- and texts of any lengths; the fresh places are those of the new text that touch the change or its seam (`fresh-are`). Assumes nothing.
 use mathlib.Core.Path.{_≡_, refl, sym, ap, ap₂, subst, _∙_}
-use Prim.Native.Nat.{ℕ, zero, suc, _+_, _-_, _≤_}
+use Prim.Native.Nat.{ℕ, _+_, _-_, _≤_}
 use native.Mathlib.Omega.{arith}
-use mathlib.Core.Bool.{Bool, true, cond, _&&_}
+use mathlib.Core.Bool.{Bool}
 use mathlib.Core.List.{List, [], _∷_, _++_, map, List·Memᴰ}
 use lib.ListN.{length, take, drop, length-drop, take-append-drop}
 use lib.Seq.{length-take-le, take-take}
 use borrow.Author.Tests.{le-leb, lt-leb}
 use Rattle.matching.specs.declared.Answer.{Answer}
 use Rattle.matching.specs.declared.Finding.{Finding}
-use Rattle.matching.specs.Occurrences.{occursAt, occursFrom, occurrences}
+use Rattle.matching.specs.Occurrences.{occurrences}
 use Rattle.matching.specs.Received.{received}
 use Rattle.matching.specs.Find.{Engine, Found}
 use Rattle.matching.specs.Joined.{those, lastOf, movedUp}
-use Rattle.matching.proofs.CaseAnalysis.{by-test}
 use Rattle.matching.proofs.Occurrences.{occurrences-are}
 use Rattle.matching.proofs.Those.{those-sound, those-complete}
 use Rattle.matching.proofs.Around.{touches, touches-both, touches-is, occurrences-around, those-before, those-after, those-touching}
 use Rattle.matching.proofs.Find.{found-none, found-answer, found-listed}
-use Rattle.late_cuts.specs.LateCuts.{Cut, newText, stays, moves, change, movedBy, fresh, relisted, Touches, risesFrom, rises, allFit, relistRefusal, Relisted}
-use Rattle.late_cuts.proofs.Lists.{rises-lower, all-fit}
+use Rattle.cuts.specs.Cuts.{Cut, newText, relistRefusal}
+use Rattle.cuts.proofs.Calls.{taken}
+use Rattle.late_cuts.specs.LateCuts.{stays, moves, change, movedBy, fresh, relisted, Touches, Relisted}
 use Rattle.late_cuts.proofs.Signed.{moved-is}
-use Rattle.late_cuts.proofs.Calls.{taken, relisted-none, relisted-answer, relisted-listed}
-
--- ---- the old text's list is accepted
-
-from-rising : (n : ℕ) (P T : List ℕ) (k : ℕ) → risesFrom k (occursFrom n P T k) ≡ true
-unfolding risesFrom occursFrom
-from-rising zero P T k = refl
-from-rising (suc n) P T k =
-    by-test (λ t. risesFrom k (cond t (k ∷ occursFrom n P T (suc k)) (occursFrom n P T (suc k))) ≡ true) (occursAt P T k)
-    (λ _. rw (le-leb k k (omega arith)) (from-rising n P T (suc k)))
-    (λ _. rises-lower (suc k) k (occursFrom n P T (suc k)) (omega arith) (from-rising n P T (suc k)))
-
-pub occurrences-rising : (P T : List ℕ) → rises (occurrences P T) ≡ true
-unfolding occurrences
-occurrences-rising P T = from-rising (suc (length T)) P T 0
-
-pub old-list-accepted : (P T : List ℕ) → rises (occurrences P T) && allFit (length P) (length T) (occurrences P T) ≡ true
-old-list-accepted P T = rw (occurrences-rising P T) (all-fit (length P) (length T) (occurrences P T) (λ k l. occurrences-are P T k .0 l .inside))
+use Rattle.late_cuts.proofs.Calls.{relisted-none, relisted-answer, relisted-listed}
 
 -- ---- the old text, the new one, and their lists in parts
 

@@ -16,11 +16,13 @@ use Rattle.matching.proofs.Occurrences.{occurrences-few, member}
 use Rattle.matching.proofs.Those.{those-few}
 use Rattle.matching.proofs.Received.{received-on}
 use Rattle.matching.proofs.Find.{none-refused}
-use Rattle.late_cuts.specs.LateCuts.{Cut, stays, moves, change, movedBy, around, fresh, relisted}
+use Rattle.cuts.specs.Cuts.{Cut}
+use Rattle.cuts.proofs.Lists.{rises-few, fit-member}
+use Rattle.cuts.proofs.Calls.{Taken, length-new}
+use Rattle.late_cuts.specs.LateCuts.{stays, moves, change, movedBy, around, fresh, relisted}
 use Rattle.late_cuts.specs.Asked.{Movable}
-use Rattle.late_cuts.proofs.Lists.{rises-few, fit-member, moves-later}
+use Rattle.late_cuts.proofs.Lists.{moves-later}
 use Rattle.late_cuts.proofs.Signed.{difference-small, moves-so}
-use Rattle.late_cuts.proofs.Calls.{Taken, length-new}
 
 module _ {P T list : List ℕ} {c : Cut} (k : Taken P T list c) where
   -- the new letters lie within the new text, and the list has no more places than the old one has letters

@@ -11,9 +11,10 @@ use lib.IntN.{ℤ, pos, negsuc, natAbs, _+ℤ_, _-ℤ_}
 use lib.Signed.{mag, _≤ℤ_, leZ-yes}
 use borrow.Author.Tests.{ltb-true, ltb-false, le-ltb}
 use Rattle.matching.proofs.CaseAnalysis.{by-test}
-use Rattle.late_cuts.specs.LateCuts.{Cut, newText, change, movedBy}
+use Rattle.cuts.specs.Cuts.{Cut, newText}
+use Rattle.cuts.proofs.Calls.{length-new}
+use Rattle.late_cuts.specs.LateCuts.{change, movedBy}
 use Rattle.late_cuts.specs.Asked.{Moves}
-use Rattle.late_cuts.proofs.Calls.{length-new}
 
 -- a difference of two numbers up to n is no further than n from 0
 pub difference-small : (a b n : ℕ) → a ≤ n → b ≤ n → mag (pos a -ℤ pos b) ≤ n

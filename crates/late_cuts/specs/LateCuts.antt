@@ -1,33 +1,19 @@
--- Late cuts (document 02, (xiii)): a stretch of the text is replaced, and a phrase's list for the new text comes from its list for the old one. P is the phrase, T the old text.
+-- Late cuts (document 02, (xiii)): a phrase's list for the text after a cut comes from its list for the old one. P is the phrase, T the old text; a cut, the new text and the refusals
+-- are those of the crate `cuts`.
 -- That the old text's list gives the new text's is shown in proofs/NewList.antt (`new-list`); that the fresh places are those that touch the change or its seam, in `fresh-are`;
 -- that no place is moved below 0 or past the new text's end, in proofs/Signed.antt (`moved-exact`, `moved-inside`).
 use mathlib.Core.Path.{_≡_}
-use Prim.Native.Nat.{ℕ, suc, _+_, _-_, _<_}
-use mathlib.Core.Bool.{Bool, true, cond, not, _&&_, _||_}
-use mathlib.Core.List.{List, [], _∷_, _++_, map}
+use Prim.Native.Nat.{ℕ, _+_, _-_, _<_}
+use mathlib.Core.Bool.{Bool, cond}
+use mathlib.Core.List.{List, _++_, map}
 use lib.ListN.{length, take, drop}
-use lib.Dec.{eqb, ltb, leb}
+use lib.Dec.{eqb, leb}
 use lib.IntN.{ℤ, pos, natAbs, _+ℤ_, _-ℤ_}
 use Rattle.matching.specs.declared.Answer.{Answer}
 use Rattle.matching.specs.Occurrences.{occurrences, Occurs}
 use Rattle.matching.specs.Received.{received}
-use Rattle.matching.specs.Refusals.{Test, firstMet}
-use Rattle.matching.specs.Find.{findTests}
 use Rattle.matching.specs.Joined.{those, lastOf, movedUp}
-
--- a cut: the stretch from the letter at `start` up to the one before `end`, and the new letters in its place
-pub record Cut : Type 0 where
-  pub start : ℕ
-  pub end : ℕ
-  pub letters : List ℕ
-
--- the cut of these
-abbrev pub cut : ℕ → ℕ → List ℕ → Cut
-cut start end letters = record { start = start; end = end; letters = letters }
-
--- the new text: the old text up to the start, the new letters, the old text from the end on
-abbrev pub newText : List ℕ → Cut → List ℕ
-newText T c = take (c .start) T ++ c .letters ++ drop (c .end) T
+use Rattle.cuts.specs.Cuts.{Cut, newText, relistRefusal}
 
 -- ---- the places of the new list
 
@@ -66,35 +52,6 @@ pub record Touches (P T : List ℕ) (c : Cut) (k : ℕ) : Type 0 where
   pub occurs : Occurs P (newText T c) k
   pub ends : c .start < k + length P
   pub starts : k < c .start + length (c .letters)
-
--- ---- the refusals
-
--- whether places strictly rise, the first of them being at least `low`
-unfoldable pub risesFrom : ℕ → List ℕ → Bool
-risesFrom low [] = true
-risesFrom low (k ∷ ks) = leb low k && risesFrom (suc k) ks
-
--- whether places strictly rise
-abbrev pub rises : List ℕ → Bool
-rises = risesFrom 0
-
--- whether a phrase of m letters stays within n letters at each of these places
-unfoldable pub allFit : ℕ → ℕ → List ℕ → Bool
-allFit m n [] = true
-allFit m n (k ∷ ks) = leb (k + m) n && allFit m n ks
-
--- the stretch; the list; the new text
-abbrev pub cutTests : List ℕ → List ℕ → List ℕ → Cut → List Test
-cutTests P T list c =
-    (ltb (c .end) (c .start) || ltb (length T) (c .end), 17) ∷
-    (not (rises list && allFit (length P) (length T) list), 18) ∷
-    (ltb 32768 (length (newText T c)), 4) ∷
-    []
-
--- the refusal of a call, 0 for none: phrase and old text as in a find, which needs no scratch here; then the cut
-unfoldable pub relistRefusal : List ℕ → List ℕ → List ℕ → Cut → ℕ
-unfolding firstMet risesFrom allFit
-relistRefusal P T list c = firstMet (findTests (length P) (length T) 0 0 ++ cutTests P T list c)
 
 -- ---- the call
 

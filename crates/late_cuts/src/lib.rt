@@ -1,9 +1,9 @@
 // Late cuts (document 02, (xiii)): a stretch of the text is replaced, and a phrase's list for the new text is made from its list for the old one.
-// It depends on `matching` for the problem, the lent list and the refusals, on `naive` for the fresh places, and on `pieces` to lay letters from both sides of a seam out together.
+// It depends on `cuts` for the refusals, on `matching` for the problem and the lent list, on `naive` for the fresh places, and on `pieces` to lay letters from both sides of a seam out together.
 // The new letters are searched where they lie, and only letters at a seam are copied: at most 1,023 from each of three parts.
 use matching::Answer;
 ghost use mathlib.Core.Path.{_≡_};
-ghost use mathlib.Core.Bool.{true, _&&_};
+ghost use mathlib.Core.Bool.{true};
 ghost use mathlib.Core.List.{_++_, map};
 ghost use Prim.Native.Nat.{_+_, _*_, _-_, _≤_, _<_, min};
 ghost use lib.ListN.{length, take, drop};
@@ -13,63 +13,8 @@ ghost use Rattle.matching.specs.Received.{received, receivedFrom};
 ghost use Rattle.matching.specs.Find.{refusal};
 ghost use Rattle.matching.specs.Joined.{those, movedUp};
 ghost use Rattle.late_cuts.specs.Asked.{Small, Moves, Movable};
-ghost use Rattle.late_cuts.specs.LateCuts.{cut, stays, moves, movedBy, fresh, rises, allFit, relistRefusal, Relisted};
-
-// ---- the refusals
-
-// Whether a list strictly rises and the phrase, of m letters, stays within the n letters of the text at each place.
-fn accepted(list: &[u32], m: usize, n: usize) -> bool
-    requires { ⌜ m ≤ 1024 ⌝ }
-    ensures { λ r. ⌜ r ≡ rises (now (list .entry)) && allFit m n (now (list .entry)) ⌝ }
-{
-    let mut low = 0;
-    let mut i = 0;
-    while i < list.len() {
-        let place = list[i] as usize;
-        if place < low {
-            return false;
-        }
-        if n < place + m {
-            return false;
-        }
-        low = place + 1;
-        i += 1;
-    }
-    true
-}
-
-// The refusal of a call, 0 for none.
-fn refused(
-    phrase: &[u8],
-    text: &[u8],
-    list: &[u32],
-    start: usize,
-    end: usize,
-    letters: &[u8],
-) -> u32
-    ensures { λ r. ⌜ r ≡ relistRefusal (now (phrase .entry)) (now (text .entry)) (now (list .entry)) (cut start end (now (letters .entry))) ⌝ }
-{
-    let m = phrase.len();
-    let n = text.len();
-    let refusal = matching::refused(m, n, 0, 0);
-    if refusal != 0 {
-        return refusal;
-    }
-    if end < start {
-        return 17;
-    }
-    if n < end {
-        return 17;
-    }
-    let good = accepted(list, m, n);
-    if !good {
-        return 18;
-    }
-    if 32768 < start + letters.len() + (n - end) {
-        return 4;
-    }
-    0
-}
+ghost use Rattle.cuts.specs.Cuts.{cut, rises};
+ghost use Rattle.late_cuts.specs.LateCuts.{stays, moves, movedBy, fresh, Relisted};
 
 // ---- those that stay
 
@@ -317,7 +262,7 @@ pub fn relist(
 ) -> Answer
     ensures { λ r. ⌜ Relisted (now (phrase .entry)) (now (text .entry)) (now (list .entry)) (cut start end (now (letters .entry))) (now (answer .entry)) r (now (answer .exit)) ⌝ }
 {
-    let refusal = refused(phrase, text, list, start, end, letters);
+    let refusal = cuts::refused(phrase, text, list, start, end, letters);
     if refusal != 0 {
         return Answer { refusal, number: 0 };
     }

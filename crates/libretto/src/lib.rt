@@ -1,6 +1,6 @@
 // This crate is the C interface: each function is exported under the name that include/libretto.h gives it, and carries the exact contract of what it wraps.
 // An enum does not pass to C: the definitions of specs/Plain.antt say which numbers pass in its place. `rt staticlib libretto` makes the archive that C and Rust link.
-// It depends on `find`, `fjs`, `late_cuts`, `fold`, `cue_fields`, `cues`, `cue_book`, `cue_writer` and `resolver` for what it exports, and on `matching` for a finding and an answer.
+// It depends on `find`, `fjs`, `late_cuts`, `fold`, `cue_fields`, `cues`, `cue_book`, `cue_writer` and `resolver` for what it exports, on `cuts` for what a cut is, and on `matching` for a finding and an answer.
 use cue_book::Part;
 use cue_fields::Due;
 use cue_fields::FieldAnswer;
@@ -17,7 +17,8 @@ ghost use Rattle.matching.specs.Find.{Found};
 ghost use Rattle.fjs.specs.Fjs.{fjs, Bounded};
 ghost use Rattle.fjs.specs.Moves.{finding, Listed};
 ghost use Rattle.find.specs.Find.{Answered};
-ghost use Rattle.late_cuts.specs.LateCuts.{cut, Relisted};
+ghost use Rattle.cuts.specs.Cuts.{cut};
+ghost use Rattle.late_cuts.specs.LateCuts.{Relisted};
 ghost use Rattle.fold.specs.Fold.{folded};
 ghost use Rattle.cues.specs.Cue.{cueWith};
 ghost use Rattle.cues.specs.Places.{cueAt};

@@ -14,9 +14,10 @@ use borrow.Author.Needs.{needs}
 use Rattle.matching.specs.Received.{receivedFrom}
 use Rattle.matching.specs.Joined.{those}
 use Rattle.matching.proofs.Those.{those-nothing}
+use Rattle.cuts.proofs.Lists.{next-place}
 use Rattle.late_cuts.specs.LateCuts.{moves, movedBy}
 use Rattle.late_cuts.specs.Asked.{Moves}
-use Rattle.late_cuts.proofs.Lists.{next-place, moves-first, moves-not, Putting, put-one, put-over}
+use Rattle.late_cuts.proofs.Lists.{moves-first, moves-not, Putting, put-one, put-over}
 use Rattle.late_cuts.proofs.put_moved.Statement.{statement}
 use Rattle.late_cuts.proofs.put_moved.Tie as tie
 

@@ -10,8 +10,10 @@ use borrow.Author.Needs.{needs}
 use Rattle.matching.specs.Received.{received}
 use Rattle.matching.specs.Joined.{those}
 use Rattle.matching.proofs.Those.{those-nothing}
-use Rattle.late_cuts.specs.LateCuts.{stays, rises}
-use Rattle.late_cuts.proofs.Lists.{next-place, rises-next, stays-ended, stays-first, Putting, put-one, put-over}
+use Rattle.cuts.specs.Cuts.{rises}
+use Rattle.cuts.proofs.Lists.{next-place, rises-next}
+use Rattle.late_cuts.specs.LateCuts.{stays}
+use Rattle.late_cuts.proofs.Lists.{stays-ended, stays-first, Putting, put-one, put-over}
 use Rattle.late_cuts.proofs.put_staying.Statement.{statement}
 use Rattle.late_cuts.proofs.put_staying.Tie as tie
 

@@ -5,10 +5,12 @@ use native.Mathlib.Omega.{arith}
 use lib.ListN.{drop, length-drop}
 use lib.IntN.{ℤ}
 use borrow.Author.Needs.{needs}
-use Rattle.late_cuts.specs.LateCuts.{Cut, cut, moves}
+use Rattle.cuts.specs.Cuts.{Cut, cut}
+use Rattle.cuts.proofs.Calls.{Taken, taken}
+use Rattle.late_cuts.specs.LateCuts.{moves}
 use Rattle.late_cuts.specs.Asked.{Movable}
 use Rattle.matching.proofs.Those.{those-few}
-use Rattle.late_cuts.proofs.Calls.{Taken, taken, relisted-refused, relisted-taken}
+use Rattle.late_cuts.proofs.Calls.{relisted-refused, relisted-taken}
 use Rattle.late_cuts.proofs.Relisted.{new-inside, list-few, stay-few, fresh-few, letters-found, change-back, movable, all-put}
 use Rattle.late_cuts.proofs.relist.Statement.{statement}
 use Rattle.late_cuts.proofs.relist.Tie as tie

@@ -1,4 +1,4 @@
--- `late_cuts::refused` meets its contract: each return is the first row that is met. Assumes nothing.
+-- `cuts::refused` meets its contract: each return is the first row that is met. Assumes nothing.
 use mathlib.Core.Path.{_≡_, sym, ap, _∙_}
 use Prim.Native.Nat.{ℕ}
 use native.Mathlib.Omega.{arith}
@@ -8,10 +8,10 @@ use lib.ListN.{length}
 use borrow.Author.Needs.{needs}
 use Rattle.matching.specs.Find.{refusal}
 use Rattle.matching.proofs.Find.{within}
-use Rattle.late_cuts.specs.LateCuts.{Cut, cut}
-use Rattle.late_cuts.proofs.Calls.{refused-first, refused-order, refused-past, refused-list, refused-new, refused-not}
-use Rattle.late_cuts.proofs.refused.Statement.{statement}
-use Rattle.late_cuts.proofs.refused.Tie as tie
+use Rattle.cuts.specs.Cuts.{Cut, cut}
+use Rattle.cuts.proofs.Calls.{refused-first, refused-order, refused-past, refused-list, refused-new, refused-not}
+use Rattle.cuts.proofs.refused.Statement.{statement}
+use Rattle.cuts.proofs.refused.Tie as tie
 
 -- the call, where phrase and old text are not refused
 abbrev call : tie.After-refused → tie.Start

@@ -1,13 +1,13 @@
--- `late_cuts::accepted` meets its contract. The loop's invariant: whether the whole list is accepted is whether the rest of it is, from `low` on. Assumes nothing.
+-- `cuts::accepted` meets its contract. The loop's invariant: whether the whole list is accepted is whether the rest of it is, from `low` on. Assumes nothing.
 use mathlib.Core.Path.{_≡_, refl, sym, ap, _∙_}
 use Prim.Native.Nat.{ℕ, _+_, _-_, _≤_, _<_}
 use native.Mathlib.Omega.{arith}
 use mathlib.Core.List.{List, [], _∷_}
 use lib.ListN.{length, getD, drop, drop-of-length-le}
 use borrow.Author.Needs.{needs}
-use Rattle.late_cuts.proofs.Lists.{next-place, acceptedFrom, accepted-none, accepted-falls, accepted-passes, accepted-next}
-use Rattle.late_cuts.proofs.accepted.Statement.{statement}
-use Rattle.late_cuts.proofs.accepted.Tie as tie
+use Rattle.cuts.proofs.Lists.{next-place, acceptedFrom, accepted-none, accepted-falls, accepted-passes, accepted-next}
+use Rattle.cuts.proofs.accepted.Statement.{statement}
+use Rattle.cuts.proofs.accepted.Tie as tie
 
 abbrev Inv-loop : tie.InvT-loop
 Inv-loop list m n low₀ i₀ low i = (acceptedFrom m n 0 list ≡ acceptedFrom m n low (drop i list)) × (i ≤ length list)

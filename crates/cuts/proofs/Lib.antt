@@ -1,0 +1,3 @@
+-- The laws of cuts.
+pub mod Lists
+pub mod Calls
