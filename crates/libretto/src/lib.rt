@@ -1,13 +1,12 @@
 // This crate is the C interface: each function is exported under the name that include/libretto.h gives it, and carries the exact contract of what it wraps.
-// An enum does not pass to C: the definitions of specs/Plain.antt say which numbers pass in its place. `rt staticlib libretto` makes the archive that C and Rust link.
-// It depends on `find`, `fjs`, `late_cuts`, `fold`, `cue_fields`, `cues`, `cue_book`, `cue_writer` and `resolver` for what it exports, on `cuts` for what a cut is, and on `matching` for a finding and an answer.
+// `rt staticlib libretto` makes the archive that C and Rust link.
+// It depends on `find`, `fjs`, `late_cuts`, `fold`, `plain`, `cue_book`, `cue_writer` and `resolver` for what it exports, on `cuts` and `cues` for what a cut and a cue are, and on `matching` for a finding and an answer.
 use cue_book::Part;
-use cue_fields::Due;
-use cue_fields::FieldAnswer;
-use cues::CueAnswer;
 use fjs::MovesFinding;
 use matching::Answer;
 use matching::Finding;
+use plain::PlainCue;
+use plain::PlainField;
 ghost use mathlib.Core.Path.{_≡_};
 ghost use mathlib.Core.List.{map};
 ghost use Prim.Native.Nat.{min};
@@ -25,28 +24,7 @@ ghost use Rattle.cues.specs.Places.{cueAt};
 ghost use Rattle.cue_book.specs.Places.{bookAnswer, TitlePlaced};
 ghost use Rattle.cue_writer.specs.Writing.{Written};
 ghost use Rattle.resolver.specs.Resolver.{Resolved};
-ghost use Rattle.libretto.specs.Plain.{fieldDue, fieldPassed, cuePassed};
-
-// A field read, as it passes to C: the refusal, or 0 with its body's start and length and the place after it. A refused one is 0 in all else.
-#[repr(C)]
-pub struct PlainField {
-    pub refusal: u32,
-    pub start: usize,
-    pub len: usize,
-    pub end: usize,
-}
-
-// A cue read, as it passes to C: the refusal, or 0 with its ordinal, its phrase and its title as parts of the book, and the place after it. A refused one is 0 in all else.
-#[repr(C)]
-pub struct PlainCue {
-    pub refusal: u32,
-    pub ordinal: u32,
-    pub phrase_start: usize,
-    pub phrase_len: usize,
-    pub title_start: usize,
-    pub title_len: usize,
-    pub end: usize,
-}
+ghost use Rattle.plain.specs.Plain.{fieldDue, fieldPassed, cuePassed};
 
 // A find by a method number. Slices pass as pointer and length, the finding as a struct of three 32-bit numbers.
 #[no_mangle]
@@ -117,48 +95,12 @@ pub extern "C" fn libretto_fold_text(text: &[u8], target: &mut [u8]) -> usize
     letters
 }
 
-// The field that a number names by its tag, read at a place of a book. No byte is the tag of another number.
-fn read_due(book: &[u8], place: usize, due: u32) -> FieldAnswer
-    ensures { λ r. ⌜ r ≡ fieldDue (now (book .entry)) place due ⌝ }
-{
-    if due == 1 {
-        return cue_fields::read_field(book, place, Due::Phrase);
-    }
-    if due == 2 {
-        return cue_fields::read_field(book, place, Due::Ordinal);
-    }
-    if due == 3 {
-        return cue_fields::read_field(book, place, Due::Title);
-    }
-    if book.len() < place {
-        return FieldAnswer::Refused(7);
-    }
-    if book.len() - place < 3 {
-        return FieldAnswer::Refused(7);
-    }
-    FieldAnswer::Refused(8)
-}
-
-// A field read at a place of a book.
+// The field that a number names by its tag, read at a place of a book.
 #[no_mangle]
 pub extern "C" fn libretto_read_field(book: &[u8], place: usize, due: u32) -> PlainField
     ensures { λ r. ⌜ r ≡ fieldPassed (fieldDue (now (book .entry)) place due) ⌝ }
 {
-    let answer = read_due(book, place, due);
-    match answer {
-        FieldAnswer::Body { start, end } => PlainField {
-            refusal: 0,
-            start,
-            len: end - start,
-            end,
-        },
-        FieldAnswer::Refused(refusal) => PlainField {
-            refusal,
-            start: 0,
-            len: 0,
-            end: 0,
-        },
-    }
+    plain::read_field(book, place, due)
 }
 
 // A cue read at a place of a book.
@@ -166,33 +108,7 @@ pub extern "C" fn libretto_read_field(book: &[u8], place: usize, due: u32) -> Pl
 pub extern "C" fn libretto_read_cue(book: &[u8], place: usize) -> PlainCue
     ensures { λ r. ⌜ r ≡ cuePassed (cueAt (now (book .entry)) place) ⌝ }
 {
-    let answer = cues::read_cue(book, place);
-    match answer {
-        CueAnswer::Cue {
-            phrase,
-            phrase_end,
-            ordinal,
-            title,
-            end,
-        } => PlainCue {
-            refusal: 0,
-            ordinal,
-            phrase_start: phrase,
-            phrase_len: phrase_end - phrase,
-            title_start: title,
-            title_len: end - title,
-            end,
-        },
-        CueAnswer::Refused(number) => PlainCue {
-            refusal: number,
-            ordinal: 0,
-            phrase_start: 0,
-            phrase_len: 0,
-            title_start: 0,
-            title_len: 0,
-            end: 0,
-        },
-    }
+    plain::read_cue(book, place)
 }
 
 // A book read: 0 and its number of cues, or the refusal and the cue's index. An answer passes as a struct of two 32-bit numbers.

@@ -1,11 +1,11 @@
--- `libretto::libretto_read_field` meets its contract: each arm is a clause of `fieldPassed`. Assumes nothing.
+-- `plain::read_field` meets its contract: each arm is a clause of `fieldPassed`. Assumes nothing.
 use borrow.Author.Needs.{needs}
 use mathlib.Core.Path.{sym, ap, _∙_}
 use native.Mathlib.Omega.{arith}
-use Rattle.libretto.specs.Plain.{fieldPassed}
-use Rattle.libretto.proofs.Plain.{body-ordered}
-use Rattle.libretto.proofs.libretto_read_field.Statement.{statement}
-use Rattle.libretto.proofs.libretto_read_field.Tie as tie
+use Rattle.plain.specs.Plain.{fieldPassed}
+use Rattle.plain.proofs.Plain.{body-ordered}
+use Rattle.plain.proofs.read_field.Statement.{statement}
+use Rattle.plain.proofs.read_field.Tie as tie
 
 read-due-requires : tie.Need-read-due-requires
 read-due-requires c κs = search needs
@@ -28,5 +28,5 @@ returns c = ap fieldPassed (sym (c .before .answer .given .1) ∙ c .before .bef
 returns-2 : tie.Need-returns-2
 returns-2 c = ap fieldPassed (sym (c .before .answer2 .given .1) ∙ c .before .before .before .read-due .ensures)
 
-pub libretto-read-field-spec : {M : Type 1} → statement M
-libretto-read-field-spec = tie.close (tie.spec read-due-requires enum-known-answer sub-t9 enum-known-answer-2 returns returns-2)
+pub read-field-spec : {M : Type 1} → statement M
+read-field-spec = tie.close (tie.spec read-due-requires enum-known-answer sub-t9 enum-known-answer-2 returns returns-2)

@@ -1,4 +1,4 @@
--- The answers of the cue book as they pass to C, where an enum cannot: the number of document 01, and 0 in all else where it is a refusal. A part is a start and a length.
+-- The answers of the cue book where an enum cannot pass, as to C: the number of document 01, and 0 in all else where it is a refusal. A part is a start and a length.
 use Prim.Native.Nat.{ℕ, _-_}
 use mathlib.Core.Bool.{cond}
 use mathlib.Core.List.{List}
@@ -10,8 +10,8 @@ use Rattle.cue_fields.specs.declared.FieldAnswer.the-variants as field
 use Rattle.cue_fields.specs.Field.{fieldAt}
 use Rattle.cues.specs.declared.CueAnswer.{CueAnswer}
 use Rattle.cues.specs.declared.CueAnswer.the-variants as cue
-use Rattle.libretto.specs.declared.PlainField.{PlainField}
-use Rattle.libretto.specs.declared.PlainCue.{PlainCue}
+use Rattle.plain.specs.declared.PlainField.{PlainField}
+use Rattle.plain.specs.declared.PlainCue.{PlainCue}
 
 -- ---- a field
 

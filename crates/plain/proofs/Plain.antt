@@ -13,7 +13,7 @@ use Rattle.cue_fields.specs.declared.Due.the-variants.{Phrase, Ordinal, Title}
 use Rattle.cue_fields.specs.declared.FieldAnswer.{FieldAnswer}
 use Rattle.cue_fields.specs.declared.FieldAnswer.the-variants.{Body, Refused}
 use Rattle.cue_fields.specs.Field.{fieldSize, fieldRefusal, fieldAt}
-use Rattle.libretto.specs.Plain.{unknownAt, fieldDue}
+use Rattle.plain.specs.Plain.{unknownAt, fieldDue}
 
 -- ---- the field by its number
 

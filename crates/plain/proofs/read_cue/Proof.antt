@@ -1,11 +1,11 @@
--- `libretto::libretto_read_cue` meets its contract: each arm is a clause of `cuePassed`. Assumes nothing.
+-- `plain::read_cue` meets its contract: each arm is a clause of `cuePassed`. Assumes nothing.
 use borrow.Author.Needs.{needs}
 use mathlib.Core.Path.{sym, ap, _∙_}
 use native.Mathlib.Omega.{arith}
 use Rattle.cues.proofs.Cues.{cue-at, title-ends}
-use Rattle.libretto.specs.Plain.{cuePassed}
-use Rattle.libretto.proofs.libretto_read_cue.Statement.{statement}
-use Rattle.libretto.proofs.libretto_read_cue.Tie as tie
+use Rattle.plain.specs.Plain.{cuePassed}
+use Rattle.plain.proofs.read_cue.Statement.{statement}
+use Rattle.plain.proofs.read_cue.Tie as tie
 
 read-cue-requires : tie.Need-read-cue-requires
 read-cue-requires c κs = search needs
@@ -28,5 +28,5 @@ returns c = ap cuePassed (sym (c .before .answer .given .1) ∙ c .before .befor
 returns-2 : tie.Need-returns-2
 returns-2 c = ap cuePassed (sym (c .before .answer2 .given .1) ∙ c .before .before .before .read-cue .ensures .answer)
 
-pub libretto-read-cue-spec : {M : Type 1} → statement M
-libretto-read-cue-spec = tie.close (tie.spec read-cue-requires enum-known-answer sub-t11 sub-t12 enum-known-answer-2 returns returns-2)
+pub read-cue-spec : {M : Type 1} → statement M
+read-cue-spec = tie.close (tie.spec read-cue-requires enum-known-answer sub-t11 sub-t12 enum-known-answer-2 returns returns-2)

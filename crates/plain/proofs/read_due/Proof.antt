@@ -1,12 +1,12 @@
--- `libretto::read_due` meets its contract: each arm is a case of `fieldDue`. Assumes nothing.
+-- `plain::read_due` meets its contract: each arm is a case of `fieldDue`. Assumes nothing.
 use borrow.Author.Needs.{needs}
 use mathlib.Core.Path.{_≡_, sym, _∙_}
 use native.Mathlib.Omega.{arith}
 use lib.ListN.{length-drop}
-use Rattle.libretto.specs.Plain.{unknownAt, fieldDue}
-use Rattle.libretto.proofs.Plain.{due-phrase, due-ordinal, due-title, due-unknown, unknown-short, unknown-tag}
-use Rattle.libretto.proofs.read_due.Statement.{statement}
-use Rattle.libretto.proofs.read_due.Tie as tie
+use Rattle.plain.specs.Plain.{unknownAt, fieldDue}
+use Rattle.plain.proofs.Plain.{due-phrase, due-ordinal, due-title, due-unknown, unknown-short, unknown-tag}
+use Rattle.plain.proofs.read_due.Statement.{statement}
+use Rattle.plain.proofs.read_due.Tie as tie
 
 -- the number is no tag
 unknown : (e : tie.Else3) → let a = e .before .before .before .before .args in fieldDue (a .book .now) (a .place) (a .due) ≡ unknownAt (a .book .now) (a .place)

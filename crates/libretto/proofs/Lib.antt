@@ -1,2 +1,0 @@
--- The laws of what passes to C.
-pub mod Plain

@@ -1,2 +1,0 @@
--- What passes to C where an answer is an enum.
-pub mod Plain

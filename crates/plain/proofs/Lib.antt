@@ -1,0 +1,2 @@
+-- The laws of what passes.
+pub mod Plain

@@ -1,0 +1,2 @@
+-- What passes where an answer is an enum.
+pub mod Plain
