@@ -13,28 +13,8 @@ ghost use Rattle.matching.specs.Occurrences.{occurrences};
 ghost use Rattle.fold.specs.Fold.{folded};
 ghost use Rattle.fjs.specs.Nth.{nthOf};
 ghost use Rattle.line_column.specs.LineColumn.{lineColumn};
-ghost use Rattle.outcome.specs.Outcome.{memoryRefusal};
 ghost use Rattle.resolver.specs.Resolver.{Resolved};
 ghost use Rattle.resolver.specs.Walking.{Ready, Placed};
-
-// The tests of the text and of the lent memory, before the book is read; 0 for none.
-fn memory_refusal(n: usize, copy: usize, phrase: usize, scratch: usize) -> u32
-    ensures { λ r. ⌜ r ≡ memoryRefusal n copy phrase scratch ⌝ }
-{
-    if 32768 < n {
-        return 4;
-    }
-    if scratch < 1281 {
-        return 5;
-    }
-    if copy < n {
-        return 6;
-    }
-    if phrase < 1024 {
-        return 6;
-    }
-    0
-}
 
 // Makes every byte 0.
 fn clear_bytes(bytes: &mut [u8])
@@ -156,7 +136,7 @@ pub fn resolve(
     ensures { λ r. ⌜ Resolved (now (book .entry)) (now (text .entry)) (now (copy .entry)) (now (phrase .entry)) (now (scratch .entry)) (now (entries .entry)) r (now (copy .exit)) (now (phrase .exit)) (now (scratch .exit)) (now (entries .exit)) ⌝ }
 {
     let n = text.len();
-    let refusal = memory_refusal(n, copy.len(), phrase.len(), scratch.len());
+    let refusal = outcome::refused(n, copy.len(), phrase.len(), scratch.len());
     if refusal != 0 {
         return Answer { refusal, number: 0 };
     }

@@ -44,7 +44,7 @@ clearing n = n .before .before .before .before
 
 -- the memory passed its tests
 fine : (e : tie.Else1) → callRefusal (called (start e)) ≡ 0
-fine e = sym (e .before .memory-refusal .ensures) ∙ e .if1 .left
+fine e = sym (e .before .refused .ensures) ∙ e .if1 .left
 
 -- the book was read, and its cues are as many as reading it gave
 module _ (e : tie.Else2) where
@@ -82,11 +82,11 @@ module _ (l : tie.After-letters) where
   three : 3 * length (cuesIn (readBook (book (accepted l)))) ≤ length (entry .args .entries .now)
   three = omega (arith, number (accepted l), l .before .before .if3 .left)
 
-memory-refusal-requires : tie.Need-memory-refusal-requires
-memory-refusal-requires c κs = search needs
+refused-requires : tie.Need-refused-requires
+refused-requires c κs = search needs
 
 returns : tie.Need-returns
-returns c = resolved-memory _ _ _ _ _ _ (c .before .memory-refusal .ensures) (c .if1 .taken)
+returns c = resolved-memory _ _ _ _ _ _ (c .before .refused .ensures) (c .if1 .taken)
 
 read-book-requires : tie.Need-read-book-requires
 read-book-requires c κs = search needs
@@ -154,7 +154,7 @@ pub resolve-spec : {M : Type 1} → statement M
 resolve-spec =
     tie.close
     (tie.spec
-    memory-refusal-requires
+    refused-requires
     returns
     read-book-requires
     returns-2

@@ -1,10 +1,10 @@
--- `resolver::memory_refusal` meets its contract: each return is the first row that is met. Assumes nothing.
+-- `outcome::refused` meets its contract: each return is the first row that is met. Assumes nothing.
 use native.Mathlib.Omega.{arith}
 use borrow.Author.Tests.{lt-ltb, le-ltb}
 use Rattle.matching.specs.Refusals.{firstMet}
 use Rattle.outcome.specs.Outcome.{memoryRefusal}
-use Rattle.resolver.proofs.memory_refusal.Statement.{statement}
-use Rattle.resolver.proofs.memory_refusal.Tie as tie
+use Rattle.outcome.proofs.refused.Statement.{statement}
+use Rattle.outcome.proofs.refused.Tie as tie
 
 returns : tie.Need-returns
 unfolding memoryRefusal firstMet
@@ -30,5 +30,5 @@ returns-5 c =
     let a = c .before .before .before .before .args in
     rw (le-ltb 32768 (a .n) (omega arith), le-ltb (a .scratch) 1281 (omega arith), le-ltb (a .copy) (a .n) (omega arith), le-ltb (a .phrase) 1024 (omega arith))
 
-pub memory-refusal-spec : {M : Type 1} → statement M
-memory-refusal-spec = tie.close (tie.spec returns returns-2 returns-3 returns-4 returns-5)
+pub refused-spec : {M : Type 1} → statement M
+refused-spec = tie.close (tie.spec returns returns-2 returns-3 returns-4 returns-5)
