@@ -14,7 +14,7 @@ const BUILDS: [(&str, &[&str]); 3] = [
 ];
 
 /// The files of `c/` and the function that each defines.
-const TWINS: [(&str, &str); 12] = [
+const TWINS: [(&str, &str); 13] = [
     ("naive", "twin_naive"),
     ("kmp", "twin_kmp"),
     ("horspool", "twin_horspool"),
@@ -27,6 +27,7 @@ const TWINS: [(&str, &str); 12] = [
     ("memmem", "twin_memmem"),
     ("late_cuts", "twin_relist"),
     ("cue_book", "twin_read_book"),
+    ("fold", "twin_fold"),
 ];
 
 /// The bytes by which copies of the library's find start behind a bound of 64.

@@ -1,8 +1,8 @@
-/* Writes a cue book from a table: book [--latin1] < TABLE > BOOK
+/* Writes a cue book from a table: book [--page 1|15] [--bytes] < TABLE > BOOK
  *
- * A line of the table is a cue: ordinal, TAB, phrase, TAB, title. Empty lines and lines that begin with # are passed over. The table is in UTF-8, or
- * with --latin1 in ISO 8859-1; the book is in ISO 8859-1. In phrase and title \n is byte 10, as in a phrase that goes over a line's end, \xNN is the
- * byte of that hexadecimal number, and \\ is a backslash.
+ * A line of the table is a cue: ordinal, TAB, phrase, TAB, title. Empty lines and lines that begin with # are passed over. The book is in ISO 8859-1,
+ * or with --page 15 in ISO 8859-15; the table is in UTF-8, or with --bytes in the book's letters. In phrase and title \n is byte 10, as in a phrase
+ * that goes over a line's end, \xNN is the byte of that hexadecimal number, and \\ is a backslash.
  *
  * Every line that is refused is told on standard error, and no book is written then; the exit status is 1. It is 2 if reading or writing fails. */
 #include <ctype.h>
@@ -11,6 +11,7 @@
 #include <string.h>
 
 #include "libretto.h"
+#include "page.h"
 
 enum { REFUSED = 1, FAILED = 2 };
 
@@ -23,7 +24,6 @@ struct field {
     size_t len;
 };
 
-static int latin1;
 static uint8_t line[LINE_ROOM];
 static size_t line_len;
 
@@ -91,20 +91,59 @@ static size_t read_escape(const uint8_t *bytes, size_t len, uint8_t *letter)
     return 0;
 }
 
-/* Reads a letter from the front of one or more bytes and gives the number of bytes that write it, or 0 if they write no letter of ISO 8859-1. */
+/* Reads a sign that UTF-8 writes in two or three bytes, as it does all from 0x80 to 0xFFFF, and gives the number of bytes, or 0 if there is none. */
+static size_t read_sign(const uint8_t *bytes, size_t len, unsigned *sign)
+{
+    size_t sign_len = (bytes[0] & 0xE0) == 0xC0 ? 2 : 3;
+
+    if ((sign_len == 3 && (bytes[0] & 0xF0) != 0xE0) || len < sign_len)
+        return 0;
+    *sign = bytes[0] & (sign_len == 2 ? 0x1F : 0x0F);
+    for (size_t i = 1; i < sign_len; i++) {
+        if ((bytes[i] & 0xC0) != 0x80)
+            return 0;
+        *sign = *sign << 6 | (bytes[i] & 0x3F);
+    }
+    /* UTF-8 writes no sign in more bytes than it needs. */
+    return *sign < (sign_len == 2 ? 0x80 : 0x800) ? 0 : sign_len;
+}
+
+/* Finds the letter of the page that a sign of Unicode is; gives 0 if the page has none. */
+static int find_letter(unsigned sign, uint8_t *letter)
+{
+    *letter = (uint8_t)sign;
+    for (size_t i = 0; i < PAGE_15_LETTERS; i++) {
+        if (page_15_letters[i].sign == sign) {
+            *letter = page_15_letters[i].letter;
+            return 1;
+        }
+        if (page_15_letters[i].letter == sign)
+            return 0;
+    }
+    return sign <= 0xFF;
+}
+
+/* Reads a letter from the front of one or more bytes and gives the number of bytes that write it, or 0 if they write no letter of the page. */
 static size_t read_letter(const uint8_t *bytes, size_t len, uint8_t *letter)
 {
     if (bytes[0] == '\\')
         return read_escape(bytes, len, letter);
-    if (latin1 || bytes[0] < 0x80) {
+    if (as_bytes || bytes[0] < 0x80) {
         *letter = bytes[0];
         return 1;
     }
-    /* UTF-8 writes the letters 0x80 to 0xFF as 0xC2 or 0xC3, for their highest two bits, and a byte for the lower six. */
-    if ((bytes[0] != 0xC2 && bytes[0] != 0xC3) || len < 2 || (bytes[1] & 0xC0) != 0x80)
-        return 0;
-    *letter = (uint8_t)((bytes[0] & 0x03) << 6 | (bytes[1] & 0x3F));
-    return 2;
+    unsigned sign;
+    size_t read = read_sign(bytes, len, &sign);
+    return read > 0 && find_letter(sign, letter) ? read : 0;
+}
+
+/* What is wrong where no letter could be read from these bytes. */
+static const char *no_letter(const uint8_t *bytes)
+{
+    if (bytes[0] == '\\')
+        return "a backslash begins none of \\n, \\xNN and \\\\";
+    return page == LIBRETTO_PAGE_15 ? "a letter is not in ISO 8859-15, or the table is not in UTF-8" :
+           "a letter is not in ISO 8859-1, or the table is not in UTF-8";
 }
 
 /* Turns a field into its letters, in place, since no letter is longer than the bytes that write it; gives what is wrong with it, or NULL. */
@@ -117,8 +156,7 @@ static const char *read_letters(struct field *field)
         uint8_t letter;
         size_t read = read_letter(bytes, field->len - from, &letter);
         if (read == 0)
-            return bytes[0] == '\\' ? "a backslash begins none of \\n, \\xNN and \\\\" :
-                   "a letter is not in ISO 8859-1, or the table is not in UTF-8";
+            return no_letter(bytes);
         from += read;
         field->bytes[letters++] = letter;
     }
@@ -176,9 +214,8 @@ int main(int argc, char **argv)
 {
     int status = 0;
 
-    latin1 = argc == 2 && strcmp(argv[1], "--latin1") == 0;
-    if (argc != 1 + latin1) {
-        fputs("usage: book [--latin1] < TABLE > BOOK\n", stderr);
+    if (read_options(argc, argv) != argc) {
+        fputs("usage: book [--page 1|15] [--bytes] < TABLE > BOOK\n", stderr);
         return FAILED;
     }
     for (unsigned long number = 1; read_line(); number++) {

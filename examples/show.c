@@ -1,11 +1,11 @@
-/* Prints the show file of a libretto and a cue book: show [--latin1] TEXT BOOK
+/* Prints the show file of a libretto and a cue book: show [--page 1|15] [--bytes] TEXT BOOK
  *
  * First a line for each cue: its index from 0, its place from 0, its line and its column from 1, and its title, which may be empty. Then the refrain
  * list of each phrase: how often it stands in the text, whether in capital or small letters and overlapping ones included, and at which places.
  * Cues whose phrases differ in capital and small letters alone count on one refrain, which is printed as the first of them writes it.
  *
- * Text and book are in ISO 8859-1. Titles and phrases are printed in UTF-8, or with --latin1 as they stand. A byte 10 in them is printed as \n, any
- * other control byte as \xNN with its hexadecimal number, and a backslash as \\, so that each keeps to its line.
+ * Text and book are in ISO 8859-1, or with --page 15 in ISO 8859-15. Titles and phrases are printed in UTF-8, or with --bytes as they stand. A byte 10
+ * in them is printed as \n, any other control byte as \xNN with its hexadecimal number, and a backslash as \\, so that each keeps to its line.
  *
  * What the library refuses is told on standard error, and no show file is printed then; the exit status is 1. It is 2 if reading or writing fails. */
 #include <assert.h>
@@ -13,6 +13,7 @@
 #include <string.h>
 
 #include "libretto.h"
+#include "page.h"
 
 enum { REFUSED = 1, FAILED = 2 };
 
@@ -21,8 +22,6 @@ enum { REFUSED = 1, FAILED = 2 };
 #define BOOK_ROOM (LIBRETTO_CUES_MAX * LIBRETTO_CUE_MAX + 1)
 
 #define PLACES_A_ROW 10
-
-static int latin1;
 
 static uint8_t text[TEXT_ROOM], book[BOOK_ROOM];
 static size_t text_len, book_len;
@@ -56,21 +55,41 @@ static int read_file(const char *path, uint8_t *bytes, size_t room, size_t *len)
     return !failed;
 }
 
-/* Prints letters of ISO 8859-1. */
+/* The sign of Unicode that a letter of the page is. */
+static unsigned sign_of(uint8_t letter)
+{
+    for (size_t i = 0; i < PAGE_15_LETTERS; i++) {
+        if (page_15_letters[i].letter == letter)
+            return page_15_letters[i].sign;
+    }
+    return letter;
+}
+
+/* Prints a sign in UTF-8: two bytes, or three from 0x800 on. None is below 0x80 here, or above 0xFFFF. */
+static void print_sign(FILE *out, unsigned sign)
+{
+    if (sign < 0x800)
+        putc((int)(0xC0 | sign >> 6), out);
+    else
+        fprintf(out, "%c%c", (int)(0xE0 | sign >> 12), (int)(0x80 | (sign >> 6 & 0x3F)));
+    putc((int)(0x80 | (sign & 0x3F)), out);
+}
+
+/* Prints letters of the page. */
 static void print_letters(FILE *out, const uint8_t *letters, size_t len)
 {
     for (size_t i = 0; i < len; i++) {
-        unsigned letter = letters[i];
+        uint8_t letter = letters[i];
         if (letter == '\n')
             fputs("\\n", out);
         else if (letter == '\\')
             fputs("\\\\", out);
         else if (letter < 0x20 || (letter >= 0x7F && letter < 0xA0))
             fprintf(out, "\\x%02x", letter);
-        else if (letter < 0x80 || latin1)
-            putc((int)letter, out);
+        else if (letter < 0x80 || as_bytes)
+            putc(letter, out);
         else
-            fprintf(out, "%c%c", (int)(0xC0 | letter >> 6), (int)(0x80 | (letter & 0x3F)));
+            print_sign(out, sign_of(letter));
     }
 }
 
@@ -87,14 +106,14 @@ static void note_cues(void)
     for (size_t place = 0; place < book_len; place = cues[cues_len++].end) {
         libretto_cue cue = libretto_read_cue(book, book_len, place);
         assert(cue.refusal == LIBRETTO_OK);
-        libretto_fold_text(book + cue.phrase_start, cue.phrase_len, folded_book + cue.phrase_start, cue.phrase_len);
+        libretto_fold_text(page, book + cue.phrase_start, cue.phrase_len, folded_book + cue.phrase_start, cue.phrase_len);
         cues[cues_len] = cue;
     }
 }
 
 static libretto_answer resolve(void)
 {
-    return libretto_resolve(book, book_len, text, text_len, folded_text, sizeof folded_text, phrase_buffer, LIBRETTO_PHRASE_BUFFER, scratch,
+    return libretto_resolve(page, book, book_len, text, text_len, folded_text, sizeof folded_text, phrase_buffer, LIBRETTO_PHRASE_BUFFER, scratch,
                             LIBRETTO_SCRATCH_RESOLVER, entries, sizeof entries / sizeof *entries);
 }
 
@@ -192,12 +211,13 @@ static void print_refrains(void)
 
 int main(int argc, char **argv)
 {
-    latin1 = argc > 1 && strcmp(argv[1], "--latin1") == 0;
-    if (argc != 3 + latin1) {
-        fputs("usage: show [--latin1] TEXT BOOK\n", stderr);
+    int files = read_options(argc, argv);
+
+    if (files == 0 || argc != files + 2) {
+        fputs("usage: show [--page 1|15] [--bytes] TEXT BOOK\n", stderr);
         return FAILED;
     }
-    const char *text_path = argv[1 + latin1], *book_path = argv[2 + latin1];
+    const char *text_path = argv[files], *book_path = argv[files + 1];
     if (!read_file(text_path, text, TEXT_ROOM, &text_len) || !read_file(book_path, book, BOOK_ROOM, &book_len))
         return FAILED;
 

@@ -56,8 +56,15 @@ enum libretto_method {
 #define LIBRETTO_PHRASE_BUFFER ((size_t)1024)
 #define LIBRETTO_CUE_ENTRIES ((size_t)3)
 
-/* Why a call was refused. They are tested in this order, and the first that applies is returned; only 7 to 9 come as the book is read, and
- * libretto_relist tests the new text's length (4) last. */
+/* The pages that letters are folded by, each a standard's set of letters. ISO 8859-15 is what French and Finnish texts need: it has the euro sign and
+ * the letters S and Z with caron, OE joined and Y with diaeresis at eight bytes where ISO 8859-1 has other signs. */
+enum libretto_page {
+    LIBRETTO_PAGE_1 = 1,  /* ISO 8859-1 */
+    LIBRETTO_PAGE_15 = 15 /* ISO 8859-15 */
+};
+
+/* Why a call was refused. They are tested in this order, and the first that applies is returned; only 7 to 9 come as the book is read, the page (14)
+ * is tested after 5 and before 6, and libretto_relist tests the new text's length (4) last. */
 enum libretto_refusal {
     LIBRETTO_OK = 0,             /* not refused */
     LIBRETTO_UNKNOWN_METHOD = 1, /* the method is above 7 */
@@ -73,6 +80,7 @@ enum libretto_refusal {
     LIBRETTO_SHORT_ENTRIES = 11, /* the cue entries are fewer than 3 for each cue */
     LIBRETTO_NO_OCCURRENCE = 12, /* a cue's occurrence does not exist */
     LIBRETTO_LONG_CUE = 13,      /* a cue to be written is longer than its buffer */
+    LIBRETTO_UNKNOWN_PAGE = 14,  /* the page is neither 1 nor 15 */
     LIBRETTO_BAD_STRETCH = 17,   /* a stretch ends before it starts, or past the text */
     LIBRETTO_BAD_LIST = 18       /* a list does not strictly rise, or holds a place where the phrase would pass the text's end */
 };
@@ -83,7 +91,7 @@ typedef struct {
 } libretto_finding;
 
 /* Finds every place of the phrase in the text, overlapping ones included, counted from 0. Letters are compared as they stand: a capital letter and
- * its small one differ. To find whatever the case, fold phrase and text first (libretto_fold_text), as the resolver does.
+ * its small one differ. To find whatever the case, fold phrase and text first by one page (libretto_fold_text), as the resolver does.
  *
  * Afterwards the list holds the first places, rising, up to its length, and its entries past those keep their values; the total is full also where
  * the list is shorter, and a short list is no refusal. The scratch's front holds the method's tables, and its entries past them keep their values.
@@ -143,12 +151,24 @@ libretto_answer libretto_relist(const uint8_t *phrase, size_t phrase_len, const 
                                 size_t list_len, size_t start, size_t end, const uint8_t *letters, size_t letters_len, uint32_t *answer,
                                 size_t answer_len);
 
-/* What a letter of ISO 8859-1 folds to: 32 is added to 0x41-0x5A and to 0xC0-0xDE except 0xD7, and every other byte stays. */
-uint8_t libretto_fold(uint8_t letter);
+/* What a letter folds to by a page: 0 and the folded letter. By page 1, 32 is added to 0x41-0x5A and to 0xC0-0xDE except 0xD7, and every other byte
+ * stays. Page 15 is page 1's rule and four pairs besides, the first folding to the second: 0xA6 and 0xA8, 0xB4 and 0xB8, 0xBC and 0xBD, 0xBE and 0xFF.
+ * A letter folded a second time stays as it is.
+ *
+ * It is refused for a page that is neither 1 nor 15 (14), with 0 as the number. */
+libretto_answer libretto_fold(uint32_t page, uint8_t letter);
 
-/* Folds the letters of a text into the target's front, as many as it has room for, and gives their number, the smaller of the two lengths. The
- * target's bytes past them keep their values. The target must not overlap the text. */
-size_t libretto_fold_text(const uint8_t *text, size_t text_len, uint8_t *target, size_t target_len);
+/* What folding a text gives back: a refusal or 0, and the letters written; a refused call gives 0 for them. */
+typedef struct {
+    uint32_t refusal;
+    size_t number;
+} libretto_folding;
+
+/* Folds the letters of a text by a page into the target's front, as many as it has room for: 0 and their number, the smaller of the two lengths. The
+ * target's bytes past them keep their values. The target must not overlap the text.
+ *
+ * It is refused for a page that is neither 1 nor 15 (14). A refused call gives 0 as the number and leaves the target as it was. */
+libretto_folding libretto_fold_text(uint32_t page, const uint8_t *text, size_t text_len, uint8_t *target, size_t target_len);
 
 /* A cue book is 0 to 999 cues and nothing after. A cue is three fields: the phrase (tag 1, 1 to 1,024 bytes), the ordinal (tag 2, 2 bytes, high byte
  * first, 1 to 65,535) and the title (tag 3, 0 to 200 bytes). A field is the tag in one byte, the length in two, high byte first, and the body; so a
@@ -207,7 +227,8 @@ libretto_answer libretto_write_cue(uint8_t *buffer, size_t buffer_len, const uin
                                    const uint8_t *title, size_t title_len);
 
 /* Finds the place of each cue of a book in the text: that of the occurrence which the cue's ordinal counts, from 1, of its folded phrase in the
- * folded text, overlapping ones included.
+ * folded text, overlapping ones included. Both are folded by the page. A text that was folded by it beforehand gives the same places, lines and
+ * columns.
  *
  * It gives 0 and the number of cues. Each cue's three entries are then its place, counted from 0, its line and its column. A line ends at byte 10,
  * at byte 13, or at the pair 13 10, which is one ending. The line is 1 plus the endings wholly before the place; the column is 1 plus the bytes
@@ -215,16 +236,16 @@ libretto_answer libretto_write_cue(uint8_t *buffer, size_t buffer_len, const uin
  * text_len bytes are the folded text; phrase buffer and scratch are 0 throughout, however long they are; the copy's bytes and the entries past those
  * written keep their values. What the lent memory held before plays no part.
  *
- * It is refused for a text of more than 32,768 bytes (4), a scratch of fewer than 1,281 entries (5), a copy shorter than the text or a phrase buffer
- * of fewer than 1,024 bytes (6), and fewer than 3 entries for each cue (11), all with 0 as the number; and for a book that is refused as a whole,
- * with the answer of libretto_read_book, which comes between 6 and 11. These leave all as before. If a cue's occurrence does not exist, the answer
- * is 12 and the first such cue's index from 0: the entries of earlier cues are written, those of this cue and the later ones keep their values, and
- * copy, phrase buffer and scratch are as after success.
+ * It is refused for a text of more than 32,768 bytes (4), a scratch of fewer than 1,281 entries (5), a page that is neither 1 nor 15 (14), a copy
+ * shorter than the text or a phrase buffer of fewer than 1,024 bytes (6), and fewer than 3 entries for each cue (11), all with 0 as the number, in
+ * this order; and for a book that is refused as a whole, with the answer of libretto_read_book, which comes between 6 and 11. These leave all as
+ * before. If a cue's occurrence does not exist, the answer is 12 and the first such cue's index from 0: the entries of earlier cues are written, those
+ * of this cue and the later ones keep their values, and copy, phrase buffer and scratch are as after success.
  *
  * Copy, phrase buffer, scratch and entries must not overlap each other or the book or the text. */
-libretto_answer libretto_resolve(const uint8_t *book, size_t book_len, const uint8_t *text, size_t text_len, uint8_t *copy, size_t copy_len,
-                                 uint8_t *phrase, size_t phrase_len, uint16_t *scratch, size_t scratch_len, uint32_t *entries,
-                                 size_t entries_len);
+libretto_answer libretto_resolve(uint32_t page, const uint8_t *book, size_t book_len, const uint8_t *text, size_t text_len, uint8_t *copy,
+                                 size_t copy_len, uint8_t *phrase, size_t phrase_len, uint16_t *scratch, size_t scratch_len,
+                                 uint32_t *entries, size_t entries_len);
 
 #ifdef __cplusplus
 }

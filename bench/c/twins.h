@@ -1,4 +1,5 @@
-/* The library's eight engines, its late cuts and its book reader written again in plain C, from the steps of documents 01 and 02, to measure the library against.
+/* The library's eight engines, its late cuts, its book reader and its folding by page 15 written again in plain C, from the steps of documents 01 and
+ * 02, to measure the library against.
  *
  * Each twin takes the memory that the library is lent and leaves it the same: its tables at the scratch's front, the first places in the list. What
  * the library refuses is not tested here: the phrase has 1 to 1,024 bytes, the text at most 32,768, the scratch is long enough, and nothing overlaps.
@@ -55,6 +56,9 @@ struct twin_answer twin_relist(const uint8_t *phrase, size_t m, const uint8_t *t
                                size_t end, const uint8_t *letters, size_t letters_len, uint32_t *restrict lent, size_t lent_len);
 
 struct twin_answer twin_read_book(const uint8_t *book, size_t book_len);
+
+/* Folds n letters by a table of 256 into a target of as many. */
+void twin_fold(const uint8_t *restrict table, const uint8_t *restrict text, size_t n, uint8_t *restrict target);
 
 /* Puts a place into the list if it has room, and counts it. */
 static inline void twin_report(struct twin_finding *found, uint32_t *restrict list, size_t list_len, size_t place)

@@ -1,4 +1,4 @@
-//! Cue books: reading one, resolving its cues, and folding a text.
+//! Cue books: reading one, and resolving its cues.
 
 use crate::clock::{rounds, Side};
 use crate::lent::Lent;
@@ -6,12 +6,16 @@ use crate::random::Random;
 use crate::statistics::least;
 use crate::texts::{Family, Text};
 use crate::twins::BUILDS;
-use libretto::{find_raw, fold, read_book_raw, resolve_raw, write_cue, Method, CUES_MAX, CUE_MAX, TEXT_MAX};
+use libretto::{find_raw, fold_text, read_book_raw, resolve_raw, write_cue, Method, Page, CUES_MAX, CUE_MAX, TEXT_MAX};
 use std::hint::black_box;
+
+/// The page that cues are resolved by: the verse is in ISO 8859-1.
+const PAGE: Page = Page::Latin1;
 
 /// The text that the cues stand in, as it is and folded.
 pub struct Libretto {
-    letters: Vec<u8>,
+    /// Its letters.
+    pub letters: Vec<u8>,
     folded: Vec<u8>,
 }
 
@@ -19,7 +23,9 @@ impl Libretto {
     /// Verse in full length.
     pub fn new() -> Libretto {
         let letters = Text::new(Family::Verse, TEXT_MAX).letters;
-        Libretto { folded: letters.iter().map(|&letter| fold(letter)).collect(), letters }
+        let mut folded = vec![0; letters.len()];
+        fold_text(PAGE, &letters, &mut folded);
+        Libretto { letters, folded }
     }
 
     /// The books of this text: of short, of mixed and of long phrases.
@@ -96,9 +102,9 @@ impl Book {
     /// The entries of all cues, which library and reference must write alike.
     fn check_resolving(&self, text: &Libretto, lent: &mut Lent) -> Vec<u32> {
         let mut other = lent.clone();
-        let raw = resolve_raw(&self.bytes, &text.letters, &mut lent.for_resolver());
+        let raw = resolve_raw(PAGE.number(), &self.bytes, &text.letters, &mut lent.for_resolver());
         let memory = other.for_resolver();
-        let answer = reference::resolve(&self.bytes, &text.letters, memory.copy, memory.phrase, memory.scratch, memory.entries);
+        let answer = reference::resolve(PAGE.number(), &self.bytes, &text.letters, memory.copy, memory.phrase, memory.scratch, memory.entries);
         assert_eq!((raw.refusal, raw.number), (0, CUES_MAX as u32), "{}: the library resolves all cues", self.phrases);
         assert_eq!((raw.refusal, raw.number), answer, "{}: the reference's answer", self.phrases);
         assert!(*lent == other, "{}: library and reference leave different memory", self.phrases);
@@ -133,7 +139,7 @@ impl<'a> Contest<'a> {
             black_box(read_book_raw(&book.bytes));
         });
         let resolving = Side::new(|lent| {
-            black_box(resolve_raw(&book.bytes, &text.letters, &mut lent.for_resolver()));
+            black_box(resolve_raw(PAGE.number(), &book.bytes, &text.letters, &mut lent.for_resolver()));
         });
         let finding = Side::new(|lent| {
             for phrase in &book.folded {
@@ -194,11 +200,4 @@ pub struct BookTimes {
     pub finding: f64,
     /// A full find for each cue by the best build of the FJS twin.
     pub twin_finding: f64,
-}
-
-/// The resolver on a book without cues: the text is folded into the copy, and the buffers are cleared.
-pub fn folding(text: &Libretto) -> Side<'_> {
-    Side::new(|lent| {
-        black_box(resolve_raw(&[], &text.letters, &mut lent.for_resolver()));
-    })
 }

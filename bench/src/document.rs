@@ -119,9 +119,11 @@ fn other_goals(results: &Results) -> Table {
         let steepest = largest(goals::exponents(results, method, &TEXT_LENGTHS));
         at_most(format!("{}, exponent of the time's growth in n, the largest of all texts", heading(method)), goals::EXPONENT, steepest);
     }
-    let folding = goals::folding(results);
+    let [by_1, by_15] = [results.folding.page_1, results.folding.page_15].map(goals::folding_speed);
     let goal = format!("at least {}", goals::FOLDING);
-    table.row(["folding, bytes a nanosecond".to_string(), goal, format!("{folding:.2}"), yes(folding >= goals::FOLDING)]);
+    table.row(["folding by page 1, bytes a nanosecond".to_string(), goal, format!("{by_1:.2}"), yes(by_1 >= goals::FOLDING)]);
+    // Page 15 was given no goal: it looks each letter up in a table, where page 1 takes many letters at a time.
+    table.row(["folding by page 15, bytes a nanosecond".to_string(), "none".to_string(), format!("{by_15:.2}"), String::new()]);
     table
 }
 
@@ -235,6 +237,7 @@ fn cuts(results: &Results) -> String {
 }
 
 fn books(results: &Results) -> String {
+    let folding = &results.folding;
     let mut table = Table::new(["phrases (book)", "reading the book", "over C", "resolving", "over finds by method 4", "over finds by FJS in C"]);
     for book in &results.books {
         let times = &book.times;
@@ -253,10 +256,15 @@ fn books(results: &Results) -> String {
          over {CUES_MAX} full finds of the phrases, which are folded beforehand, in the folded text; the resolver folds them itself, stops at each \
          cue's occurrence, and gives line and column too.\n\n{}\n\
          Folding is measured as a resolve of a book without cues: it folds the 32,768 letters into the copy and clears the phrase buffer and the \
-         scratch. It takes {:.2} µs, which is {:.2} bytes a nanosecond.\n",
+         scratch. By page 1 it takes {:.2} µs, which is {:.2} bytes a nanosecond; by page 15, which looks each letter up in a table, {:.2} µs, which is \
+         {:.2}. The letters folded by page 15 alone take {:.2} µs, {:.2} of a loop over the same table in C.\n",
         table.markdown(),
-        results.folding / 1e3,
-        goals::folding(results)
+        folding.page_1 / 1e3,
+        goals::folding_speed(folding.page_1),
+        folding.page_15 / 1e3,
+        goals::folding_speed(folding.page_15),
+        folding.text_15 / 1e3,
+        folding.text_15 / folding.twin
     )
 }
 

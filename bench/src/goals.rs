@@ -8,7 +8,7 @@ use libretto::{Method, TEXT_MAX};
 pub const MEAN: f64 = 1.05;
 /// The largest ratio that one class may have.
 pub const CLASS: f64 = 1.3;
-/// The least speed of folding, in bytes a nanosecond.
+/// The least speed of folding by page 1, in bytes a nanosecond.
 pub const FOLDING: f64 = 1.0;
 /// The most time of the resolver, in times of as many full finds by method 4.
 pub const RESOLVER: f64 = 0.6;
@@ -62,9 +62,9 @@ fn engine(results: &Results, method: Method) -> EngineVerdict<'_> {
     }
 }
 
-/// The speed of folding, in bytes a nanosecond.
-pub fn folding(results: &Results) -> f64 {
-    TEXT_MAX as f64 / results.folding
+/// The speed at which the longest text is folded in this time, in bytes a nanosecond.
+pub fn folding_speed(time: f64) -> f64 {
+    TEXT_MAX as f64 / time
 }
 
 /// The exponent with which an engine's time grows in n, for each family.

@@ -12,6 +12,7 @@ mod cuts;
 mod date;
 mod document;
 mod finds;
+mod folding;
 mod goals;
 mod growth;
 mod growth_chart;

@@ -3,9 +3,9 @@
 
 use crate::books::{self, BookTimes, Libretto};
 use crate::check::Checker;
-use crate::clock::{rounds, Side};
 use crate::cuts::{self, CutTimes};
 use crate::finds::{self, ClassTimes};
+use crate::folding::{self, FoldingTimes};
 use crate::growth;
 use crate::lent::Lent;
 use crate::phrases::Kind;
@@ -33,8 +33,8 @@ pub struct Results {
     pub cuts: Vec<CutResult>,
     /// Cue books.
     pub books: Vec<BookResult>,
-    /// A text of 32,768 bytes folded, in nanoseconds.
-    pub folding: f64,
+    /// A text of 32,768 bytes folded by each page.
+    pub folding: FoldingTimes,
     /// The time of one find by family, engine and the text's length.
     pub by_n: Vec<Grown>,
     /// The time of one find by family, engine and the phrase's length.
@@ -146,20 +146,21 @@ fn cuts(lent: &mut Lent) -> Vec<CutResult> {
     cuts.iter().zip(&contests).map(result).collect()
 }
 
-fn books(lent: &mut Lent) -> (Vec<BookResult>, f64) {
-    let text = Libretto::new();
+fn books(lent: &mut Lent) -> (Vec<BookResult>, FoldingTimes) {
+    let (text, table) = (Libretto::new(), folding::table());
     let books = text.books();
     books.iter().for_each(|book| book.check(&text, lent));
+    folding::check(&text, &table);
     let mut contests: Vec<books::Contest> = books.iter().map(|book| books::Contest::new(book, &text)).collect();
-    let mut folding = books::folding(&text);
+    let mut folding = folding::Contest::new(&text, &table);
     eprintln!("cue books and folding");
     for _ in 0..PASSES {
         contests.iter_mut().for_each(|contest| contest.run(ROUNDS, lent));
-        rounds(&mut [&mut folding], ROUNDS, lent);
+        folding.run(ROUNDS, lent);
     }
     let result =
         |(book, contest): (&books::Book, &books::Contest)| BookResult { phrases: book.phrases, length: book.bytes.len(), times: contest.times() };
-    (books.iter().zip(&contests).map(result).collect(), Side::best(&folding))
+    (books.iter().zip(&contests).map(result).collect(), folding.times())
 }
 
 fn grown<'a>(texts: &'a [Text], cases: impl Fn(&'a Text, &mut Checker) -> Vec<Case<'a>>, checker: &mut Checker, lent: &mut Lent) -> Vec<Grown> {

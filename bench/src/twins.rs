@@ -41,6 +41,7 @@ type FindMoves = unsafe extern "C" fn(*const u8, usize, *const u8, usize, *mut u
 type Relist =
     unsafe extern "C" fn(*const u8, usize, *const u8, usize, *const u32, usize, usize, usize, *const u8, usize, *mut u32, usize) -> TwinAnswer;
 type ReadBook = unsafe extern "C" fn(*const u8, usize) -> TwinAnswer;
+type Fold = unsafe extern "C" fn(*const u8, *const u8, usize, *mut u8);
 
 /// The twins compiled with one placement of code.
 pub struct Build {
@@ -48,11 +49,12 @@ pub struct Build {
     find_moves: FindMoves,
     relist: Relist,
     read_book: ReadBook,
+    fold: Fold,
 }
 
 /// Declares the functions of each build and lists the builds.
 macro_rules! builds {
-    ($($read_book:ident $relist:ident $find_moves:ident: $($find:ident)*;)*) => {
+    ($($fold:ident $read_book:ident $relist:ident $find_moves:ident: $($find:ident)*;)*) => {
         extern "C" {
             $(
                 $(fn $find(phrase: *const u8, m: usize, text: *const u8, n: usize, scratch: *mut u16, list: *mut u32, list_len: usize) -> TwinFinding;)*
@@ -82,18 +84,20 @@ macro_rules! builds {
                     lent_len: usize,
                 ) -> TwinAnswer;
                 fn $read_book(book: *const u8, book_len: usize) -> TwinAnswer;
+                fn $fold(table: *const u8, text: *const u8, n: usize, target: *mut u8);
             )*
         }
 
         /// The builds that `build.rs` makes. The best of them stands for C.
-        pub static BUILDS: [Build; 3] = [$(Build { finds: [$($find),*], find_moves: $find_moves, relist: $relist, read_book: $read_book }),*];
+        pub static BUILDS: [Build; 3] =
+            [$(Build { finds: [$($find),*], find_moves: $find_moves, relist: $relist, read_book: $read_book, fold: $fold }),*];
     };
 }
 
 builds! {
-    twin_read_book_plain twin_relist_plain twin_fjs_moves_plain: twin_naive_plain twin_kmp_plain twin_horspool_plain twin_sunday_plain twin_fjs_plain twin_double_window_plain twin_boyer_moore_plain twin_improved_fjs_plain;
-    twin_read_book_wide twin_relist_wide twin_fjs_moves_wide: twin_naive_wide twin_kmp_wide twin_horspool_wide twin_sunday_wide twin_fjs_wide twin_double_window_wide twin_boyer_moore_wide twin_improved_fjs_wide;
-    twin_read_book_packed twin_relist_packed twin_fjs_moves_packed: twin_naive_packed twin_kmp_packed twin_horspool_packed twin_sunday_packed twin_fjs_packed twin_double_window_packed twin_boyer_moore_packed twin_improved_fjs_packed;
+    twin_fold_plain twin_read_book_plain twin_relist_plain twin_fjs_moves_plain: twin_naive_plain twin_kmp_plain twin_horspool_plain twin_sunday_plain twin_fjs_plain twin_double_window_plain twin_boyer_moore_plain twin_improved_fjs_plain;
+    twin_fold_wide twin_read_book_wide twin_relist_wide twin_fjs_moves_wide: twin_naive_wide twin_kmp_wide twin_horspool_wide twin_sunday_wide twin_fjs_wide twin_double_window_wide twin_boyer_moore_wide twin_improved_fjs_wide;
+    twin_fold_packed twin_read_book_packed twin_relist_packed twin_fjs_moves_packed: twin_naive_packed twin_kmp_packed twin_horspool_packed twin_sunday_packed twin_fjs_packed twin_double_window_packed twin_boyer_moore_packed twin_improved_fjs_packed;
 }
 
 type LibraryFind = unsafe extern "C" fn(u32, *const u8, usize, *const u8, usize, *mut u16, usize, *mut u32, usize) -> RawFinding;
@@ -222,6 +226,15 @@ impl Build {
         // SAFETY: the pointer stands beside its slice's own length, and the borrow outlives the call, which keeps no pointer. The twin accepts any
         // bytes. `TwinAnswer` has the layout of the C structure.
         unsafe { (self.read_book)(book.as_ptr(), book.len()) }
+    }
+
+    /// The twin of folding by a table.
+    pub fn fold(&self, table: &[u8; 256], text: &[u8], target: &mut [u8]) {
+        assert!(target.len() >= text.len());
+        // SAFETY: each pointer comes from a slice or an array. The twin reads the text by its own length and the table at any byte's index, of which it
+        // has all 256, and writes as many letters as the assertion found room for. The exclusive borrow keeps the target apart from text and table,
+        // and all borrows outlive the call, which keeps no pointer.
+        unsafe { (self.fold)(table.as_ptr(), text.as_ptr(), text.len(), target.as_mut_ptr()) }
     }
 }
 

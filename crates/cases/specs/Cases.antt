@@ -1,4 +1,4 @@
--- The starred cases of document 01, "Refrains to try", the cases that document 02, (ii) and (x), names, the moves of an example run, and late cuts: one table, and what it means for a row to hold.
+-- The starred cases of document 01, "Refrains to try", the cases that document 02, (ii), (iv) and (x), names, the moves of an example run, and late cuts: one table, and what it means for a row to hold.
 use Prim.Native.Nat.{ℕ, suc, _-_}
 use mathlib.Core.Bool.{Bool, true, false, cond, _&&_}
 use mathlib.Core.List.{List, [], _∷_, _++_}
@@ -27,7 +27,7 @@ use Rattle.improved_fjs.specs.ImprovedFjs as improved
 use Rattle.improved_fjs.specs.ImprovedFjs.{improvedFjs}
 use Rattle.cuts.specs.Cuts.{cut, newText}
 use Rattle.late_cuts.specs.LateCuts.{relisted}
-use Rattle.fold.specs.Fold.{folded}
+use Rattle.fold.specs.Fold.{foldOn, letterAnswer}
 use Rattle.cues.specs.Cue.{Cue, cueWith}
 use Rattle.cue_book.specs.Book.{bookBytes}
 use Rattle.cue_book.specs.Reading.{Reading, refused, cues, readBook}
@@ -52,12 +52,12 @@ pub data Case : Type 0 where
   windowMoves : List ℕ → List ℕ → List ℕ → Case
   -- a late cut: the pattern, the old text, the list given, the stretch's start and end, the new letters; the list that comes of it, and the new text's own
   lateCut : List ℕ → List ℕ → List ℕ → ℕ → ℕ → List ℕ → List ℕ → List ℕ → Case
-  -- a letter, and what it folds to
-  fold : ℕ → ℕ → Case
+  -- a page and a letter, and the two numbers that folding it gives back
+  fold : ℕ → ℕ → ℕ → ℕ → Case
   -- a book's bytes, and the cues that it reads as
   book : List ℕ → List Cue → Case
-  -- a book and a text, the two numbers that resolving gives back, and the entries written; the memory lent is just enough for one cue
-  resolve : List ℕ → List ℕ → ℕ → ℕ → List ℕ → Case
+  -- a page, a book and a text, the two numbers that resolving gives back, and the entries written; the memory lent is just enough for one cue
+  resolve : ℕ → List ℕ → List ℕ → ℕ → ℕ → List ℕ → Case
 
 -- the entry given to a letter, or the entry of the others
 unfoldable pub given : List ℕ → List ℕ → ℕ → ℕ → ℕ
@@ -91,7 +91,7 @@ comesTo o refusal number entries = eqb (o .resolution .refusal) refusal && eqb (
 
 -- a row holds: the definitions give its answer
 unfoldable pub holds : Case → Bool
-unfolding same tabulate lastIn gap widest widestAt kmpEntry maxShift shift given movesFrom occurrences runFrom positionsIn compared window movesIn numbers bm.window improved.window relisted folded readsAs readBook bookBytes comesTo outcome
+unfolding same tabulate lastIn gap widest widestAt kmpEntry maxShift shift given movesFrom occurrences runFrom positionsIn compared window movesIn numbers bm.window improved.window relisted letterAnswer readsAs readBook bookBytes comesTo outcome
 holds (kmpEntries P entries moves) = same (kmpTable P) entries && same (movesFrom 0 (kmpTable P)) moves
 holds (sundayEntries P letters entries others) = same (sundayTable P) (tabulate 256 (given letters entries others))
 holds (horspoolEntries P letters entries others) = same (horspoolTable P) (tabulate 256 (given letters entries others))
@@ -101,9 +101,9 @@ holds (maxShifts P entries) = same (maxShiftTable P) entries
 holds (find e P T positions comparisons) = same (occurrences P T) positions && same (positionsIn (run (e .steps) P T)) positions && eqb (compared e P T) comparisons
 holds (windowMoves P T entries) = same (numbers (fjs-moves.moves P T)) entries
 holds (lateCut P T list start end letters places own) = same (relisted P T list (cut start end letters)) places && same (occurrences P (newText T (cut start end letters))) own
-holds (fold letter small) = eqb (folded letter) small
+holds (fold page letter refusal number) = eqb (letterAnswer page letter .refusal) refusal && eqb (letterAnswer page letter .number) number
 holds (book bytes cs) = readsAs (readBook bytes) cs && same (bookBytes cs) bytes
-holds (resolve bytes T refusal number entries) = comesTo (outcome folded (record { text = T; copy = length T; phrase = 1024; scratch = 1281; entries = 3 }) (readBook bytes)) refusal number entries
+holds (resolve page bytes T refusal number entries) = comesTo (outcome (foldOn page) (record { page = page; text = T; copy = length T; phrase = 1024; scratch = 1281; entries = 3 }) (readBook bytes)) refusal number entries
 
 -- every row holds
 unfoldable pub allHold : List Case → Bool
@@ -162,6 +162,10 @@ ABYXCDEYX = 65 ∷ 66 ∷ 89 ∷ 88 ∷ 67 ∷ 68 ∷ 69 ∷ 89 ∷ 88 ∷ []
 abbrev laNo : List ℕ
 laNo = 0x01 ∷ 0x00 ∷ 0x02 ∷ 0x6C ∷ 0x61 ∷ 0x02 ∷ 0x00 ∷ 0x02 ∷ 0x00 ∷ 0x02 ∷ 0x03 ∷ 0x00 ∷ 0x02 ∷ 0x4E ∷ 0x6F ∷ []
 
+-- a book of one cue: the first Œ of ISO 8859-15, and no title
+abbrev oe : List ℕ
+oe = 0x01 ∷ 0x00 ∷ 0x01 ∷ 0xBC ∷ 0x02 ∷ 0x00 ∷ 0x02 ∷ 0x00 ∷ 0x01 ∷ 0x03 ∷ 0x00 ∷ 0x00 ∷ []
+
 -- the table
 unfoldable pub cases : List Case
 cases =
@@ -201,11 +205,29 @@ cases =
     ∷ lateCut aba (ab ++ aba) (0 ∷ 2 ∷ []) 1 2 (wordB ++ ab) (0 ∷ 2 ∷ 4 ∷ []) (0 ∷ 2 ∷ 4 ∷ [])
     ∷ lateCut aba (ab ++ aba) [] 5 5 (wordB ++ wordA) (4 ∷ []) (0 ∷ 2 ∷ 4 ∷ [])
     ∷ lateCut aba (ab ++ aba) (0 ∷ 1 ∷ 2 ∷ []) 0 1 [] (0 ∷ 1 ∷ []) (1 ∷ [])
-    ∷ fold 0xC9 0xE9
-    ∷ fold 0xD7 0xD7
-    ∷ fold 0xDF 0xDF
-    ∷ fold 0xFF 0xFF
+    ∷ fold 1 0xC9 0 0xE9
+    ∷ fold 1 0xD7 0 0xD7
+    ∷ fold 1 0xDF 0 0xDF
+    ∷ fold 1 0xFF 0 0xFF
+    ∷ fold 15 0xA6 0 0xA8
+    ∷ fold 15 0xA8 0 0xA8
+    ∷ fold 15 0xB4 0 0xB8
+    ∷ fold 15 0xB8 0 0xB8
+    ∷ fold 15 0xBC 0 0xBD
+    ∷ fold 15 0xBD 0 0xBD
+    ∷ fold 15 0xBE 0 0xFF
+    ∷ fold 15 0xFF 0 0xFF
+    ∷ fold 15 0xC9 0 0xE9
+    ∷ fold 15 0xD7 0 0xD7
+    ∷ fold 15 0xDF 0 0xDF
+    ∷ fold 1 0xBC 0 0xBC
+    ∷ fold 0 0xC9 14 0
+    ∷ fold 2 0xC9 14 0
+    ∷ fold 16 0xC9 14 0
     ∷ book laNo (cueWith la 2 (78 ∷ 111 ∷ []) ∷ [])
-    ∷ resolve laNo (la ++ 10 ∷ la) 0 1 (3 ∷ 2 ∷ 1 ∷ [])
-    ∷ resolve laNo la 12 0 []
+    ∷ resolve 1 laNo (la ++ 10 ∷ la) 0 1 (3 ∷ 2 ∷ 1 ∷ [])
+    ∷ resolve 1 laNo la 12 0 []
+    ∷ resolve 15 oe (la ++ 0xBD ∷ []) 0 1 (2 ∷ 1 ∷ 3 ∷ [])
+    ∷ resolve 1 oe (la ++ 0xBD ∷ []) 12 0 []
+    ∷ resolve 0 oe (la ++ 0xBD ∷ []) 14 0 []
     ∷ []

@@ -3,22 +3,19 @@
 // It depends on `find`, `fjs`, `late_cuts`, `fold`, `plain`, `cue_book`, `cue_writer` and `resolver` for what it exports, on `cuts` and `cues` for what a cut and a cue are, and on `matching` for a finding and an answer.
 use cue_book::Part;
 use fjs::MovesFinding;
+use fold::Folding;
 use matching::Answer;
 use matching::Finding;
 use plain::PlainCue;
 use plain::PlainField;
 ghost use mathlib.Core.Path.{_≡_};
-ghost use mathlib.Core.List.{map};
-ghost use Prim.Native.Nat.{min};
-ghost use lib.ListN.{length};
-ghost use Rattle.matching.specs.Received.{received};
 ghost use Rattle.matching.specs.Find.{Found};
 ghost use Rattle.fjs.specs.Fjs.{fjs, Bounded};
 ghost use Rattle.fjs.specs.Moves.{finding, Listed};
 ghost use Rattle.find.specs.Find.{Answered};
 ghost use Rattle.cuts.specs.Cuts.{cut};
 ghost use Rattle.late_cuts.specs.LateCuts.{Relisted};
-ghost use Rattle.fold.specs.Fold.{folded};
+ghost use Rattle.fold.specs.Fold.{letterAnswer, LettersFolded};
 ghost use Rattle.cues.specs.Cue.{cueWith};
 ghost use Rattle.cues.specs.Places.{cueAt};
 ghost use Rattle.cue_book.specs.Places.{bookAnswer, TitlePlaced};
@@ -72,27 +69,20 @@ pub extern "C" fn libretto_relist(
     late_cuts::relist(phrase, text, list, start, end, letters, answer)
 }
 
-// What a letter of ISO 8859-1 folds to.
+// What a letter folds to on a page: 0 and the letter, or 14 and 0.
 #[no_mangle]
-pub extern "C" fn libretto_fold(letter: u8) -> u8
-    ensures { λ r. ⌜ r ≡ folded letter ⌝ }
+pub extern "C" fn libretto_fold(page: u32, letter: u8) -> Answer
+    ensures { λ r. ⌜ r ≡ letterAnswer page letter ⌝ }
 {
-    fold::letter(letter)
+    fold::letter(page, letter)
 }
 
-// The letters of a text, folded into a lent target: as many as it has entries, and their number.
+// The letters of a text, folded on a page into a lent target: 0 and how many were written, as many as it has entries; or 14 and 0. It passes as a struct of a 32-bit number and a length.
 #[no_mangle]
-pub extern "C" fn libretto_fold_text(text: &[u8], target: &mut [u8]) -> usize
-    ensures { λ _. ⌜ now (target .exit) ≡ received (now (target .entry)) (map folded (now (text .entry))) ⌝ }
-    ensures counted { λ r. ⌜ r ≡ min (length (now (text .entry))) (length (now (target .entry))) ⌝ }
+pub extern "C" fn libretto_fold_text(page: u32, text: &[u8], target: &mut [u8]) -> Folding
+    ensures { λ r. ⌜ LettersFolded page (now (text .entry)) (now (target .entry)) r (now (target .exit)) ⌝ }
 {
-    fold::letters(text, target);
-    let letters = text.len();
-    let capacity = target.len();
-    if capacity < letters {
-        return capacity;
-    }
-    letters
+    fold::letters(page, text, target)
 }
 
 // The field that a number names by its tag, read at a place of a book.
@@ -140,9 +130,10 @@ pub extern "C" fn libretto_write_cue(
     cue_writer::write_cue(buffer, phrase, ordinal, title)
 }
 
-// The cues of a book resolved in a text: 0 and the number of cues, or the refusal and its number.
+// The cues of a book resolved in a text, both folded by a page: 0 and the number of cues, or the refusal and its number.
 #[no_mangle]
 pub extern "C" fn libretto_resolve(
+    page: u32,
     book: &[u8],
     text: &[u8],
     copy: &mut [u8],
@@ -150,7 +141,7 @@ pub extern "C" fn libretto_resolve(
     scratch: &mut [u16],
     entries: &mut [u32],
 ) -> Answer
-    ensures { λ r. ⌜ Resolved (now (book .entry)) (now (text .entry)) (now (copy .entry)) (now (phrase .entry)) (now (scratch .entry)) (now (entries .entry)) r (now (copy .exit)) (now (phrase .exit)) (now (scratch .exit)) (now (entries .exit)) ⌝ }
+    ensures { λ r. ⌜ Resolved page (now (book .entry)) (now (text .entry)) (now (copy .entry)) (now (phrase .entry)) (now (scratch .entry)) (now (entries .entry)) r (now (copy .exit)) (now (phrase .exit)) (now (scratch .exit)) (now (entries .exit)) ⌝ }
 {
-    resolver::resolve(book, text, copy, phrase, scratch, entries)
+    resolver::resolve(page, book, text, copy, phrase, scratch, entries)
 }

@@ -1,11 +1,11 @@
--- A table of refusals: the row that is met after those that were passed (`met`), none where all were passed (`none-met`, `all-passed`), and the largest number (`met-most`). Assumes nothing.
+-- A table of refusals: the row that is met after those that were passed (`met`), none where all were passed (`none-met`, `all-passed`), the largest number (`met-most`), and a number that is none of them (`met-not`). Assumes nothing.
 use mathlib.Core.Path.{_≡_, refl}
 use Prim.Native.Nat.{ℕ, _≤_}
 use native.Mathlib.Omega.{arith}
-use mathlib.Core.Bool.{Bool, true, false, cond, _&&_}
+use mathlib.Core.Bool.{Bool, true, false, cond, not, _&&_}
 use mathlib.Core.List.{List, [], _∷_, _++_}
-use lib.Dec.{leb}
-use borrow.Author.Tests.{leb-true}
+use lib.Dec.{eqb, leb}
+use borrow.Author.Tests.{leb-true, eqb-false, not-true}
 use Rattle.matching.specs.Refusals.{Test, firstMet}
 use Rattle.matching.proofs.CaseAnalysis.{by-test, both, cond-most}
 
@@ -62,3 +62,15 @@ met-most most (t ∷ ts) w =
     let w′ = both (leb 1 (t .1) && leb (t .1) most) (numbersTo most ts) w in
     let here = both (leb 1 (t .1)) (leb (t .1) most) (w′ .0) in
     cond-most (t .0) (leb-true (t .1) most (here .1)) (met-most most ts (w′ .1))
+
+-- a number that no row has is not met; a test that computes on a table
+unfoldable pub without : ℕ → List Test → Bool
+without n [] = true
+without n (t ∷ ts) = not (eqb (t .1) n) && without n ts
+
+pub met-not : (n : ℕ) (ts : List Test) → without n ts ≡ true → (n ≡ 0 → ⊥) → firstMet ts ≡ n → ⊥
+unfolding firstMet without
+met-not n [] w some e = some (omega arith)
+met-not n (t ∷ ts) w some e =
+    let w′ = both (not (eqb (t .1) n)) (without n ts) w in
+    by-test (λ b. cond b (t .1) (firstMet ts) ≡ n → ⊥) (t .0) (λ _. eqb-false (t .1) n (not-true (eqb (t .1) n) (w′ .0))) (λ _. met-not n ts (w′ .1) some) e

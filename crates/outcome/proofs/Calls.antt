@@ -1,44 +1,59 @@
 -- A call by its cases: what its tests leave, the outcome by what the book reads as, and what a call that gives 0 or 12 has passed. For any fold. Assumes nothing.
-use mathlib.Core.Path.{_≡_, refl, ap, _∙_}
+use mathlib.Core.Path.{_≡_, refl, sym, ap, _∙_}
 use Prim.Native.Nat.{ℕ, _*_, _≤_, _<_}
 use native.Mathlib.Omega.{arith}
 use mathlib.Core.Logic.{_⊎_, ⊎-elim}
-use mathlib.Core.Bool.{Bool, true, cond}
+use mathlib.Core.Bool.{Bool, true, false, cond}
 use mathlib.Core.List.{List}
 use lib.ListN.{length}
 use lib.Dec.{eqb, ltb}
-use borrow.Author.Tests.{eq-eqb, ne-eqb, eqb-true, eqb-false, lt-ltb, le-ltb, ltb-true, ltb-false}
+use borrow.Author.Tests.{eq-eqb, ne-eqb, eqb-true, eqb-false, lt-ltb, le-ltb, ltb-true, ltb-false, not-false}
+use Rattle.matching.specs.Refusals.{firstMet}
 use Rattle.matching.proofs.CaseAnalysis.{by-test}
-use Rattle.matching.proofs.Refusals.{Passed, numbersTo, all-passed, met-most}
+use Rattle.matching.proofs.Refusals.{Passed, numbersTo, all-passed, without, met-not}
+use Rattle.fold.specs.Fold.{isPage}
 use Rattle.cues.specs.Cue.{Cue}
 use Rattle.cue_book.specs.Reading.{refused, cues, readBook, refusalOf, numberOf, cuesIn}
 use Rattle.cue_book.proofs.Books.{refused-book, book-most, accepted-book}
-use Rattle.outcome.specs.Outcome.{chosen, memoryTests, memoryRefusal, Call, callRefusal, resolution, Outcome, refusing, withCues, withBook, outcome}
+use Rattle.outcome.specs.Outcome.{chosen, callTests, callRefusalOf, Call, callRefusal, resolution, Outcome, refusing, withCues, withBook, outcome}
 use Rattle.outcome.proofs.Judging.{length-numbered}
 
 -- ---- the tests before the book is read
+
+-- 14 is tested after 5: a short scratch is refused with 5 whatever the page
+pub after-5 : (c : Call) → length (c .text) ≤ 32768 → c .scratch < 1281 → callRefusal c ≡ 5
+unfolding callRefusalOf firstMet
+after-5 c small short = rw (le-ltb 32768 (length (c .text)) small, lt-ltb (c .scratch) 1281 short) refl
+
+-- and before 6: an unknown page is refused with 14 whatever the buffers
+pub before-6 : (c : Call) → length (c .text) ≤ 32768 → 1281 ≤ c .scratch → isPage (c .page) ≡ false → callRefusal c ≡ 14
+unfolding callRefusalOf firstMet
+before-6 c small tables unknown = rw (le-ltb 32768 (length (c .text)) small, le-ltb (c .scratch) 1281 tables, unknown) refl
 
 -- what holds where none refuses
 pub record Enough (c : Call) : Type 0 where
   pub small : length (c .text) ≤ 32768
   pub tables : 1281 ≤ c .scratch
+  pub known : isPage (c .page) ≡ true
   pub whole : length (c .text) ≤ c .copy
   pub buffer : 1024 ≤ c .phrase
 
 pub enough : {c : Call} → callRefusal c ≡ 0 → Enough c
-unfolding memoryRefusal Passed numbersTo
+unfolding callRefusalOf Passed numbersTo
 enough {c} e =
-    let p = all-passed 6 (memoryTests (length (c .text)) (c .copy) (c .phrase) (c .scratch)) refl e in
+    let p = all-passed 14 (callTests (c .page) (length (c .text)) (c .copy) (c .phrase) (c .scratch)) refl e in
     record {
       small = ltb-false 32768 (length (c .text)) (p .0);
       tables = ltb-false (c .scratch) 1281 (p .1 .0);
-      whole = ltb-false (c .copy) (length (c .text)) (p .1 .1 .0);
-      buffer = ltb-false (c .phrase) 1024 (p .1 .1 .1 .0);
+      known = not-false (isPage (c .page)) (p .1 .1 .0);
+      whole = ltb-false (c .copy) (length (c .text)) (p .1 .1 .1 .0);
+      buffer = ltb-false (c .phrase) 1024 (p .1 .1 .1 .1 .0);
     }
 
-call-most : (c : Call) → callRefusal c ≤ 6
-unfolding memoryRefusal numbersTo
-call-most c = met-most 6 (memoryTests (length (c .text)) (c .copy) (c .phrase) (c .scratch)) refl
+-- none of them refuses with 12
+call-not-12 : (c : Call) → callRefusal c ≡ 12 → ⊥
+unfolding callRefusalOf without
+call-not-12 c = met-not 12 (callTests (c .page) (length (c .text)) (c .copy) (c .phrase) (c .scratch)) refl (λ z. omega arith)
 
 module _ (f : ℕ → ℕ) (c : Call) where
   -- ---- the outcome by its cases
@@ -86,26 +101,26 @@ module _ (f : ℕ → ℕ) (c : Call) where
   given book = outcome f c (readBook book) .resolution .refusal
 
   -- no refusal before 12 is 0 or 12
-  idle : {A : Type 0} (book : List ℕ) {number index : ℕ} → (given book ≡ 0) ⊎ (given book ≡ 12) → outcome f c (readBook book) ≡ refusing number index → 1 ≤ number → number ≤ 11 → A
-  idle {A} book {number} j e some most =
+  idle : {A : Type 0} (book : List ℕ) {number index : ℕ} → (given book ≡ 0) ⊎ (given book ≡ 12) → outcome f c (readBook book) ≡ refusing number index → (number ≡ 0 → ⊥) → (number ≡ 12 → ⊥) → A
+  idle {A} book {number} j e some other =
       let is : given book ≡ number = ap (λ (o : Outcome). o .resolution .refusal) e in
-      ⊎-elim {C = A} (λ (z : given book ≡ 0). absurd (omega arith)) (λ (z : given book ≡ 12). absurd (omega arith)) j
+      ⊎-elim {C = A} (λ (z : given book ≡ 0). absurd (some (sym is ∙ z))) (λ (z : given book ≡ 12). absurd (other (sym is ∙ z))) j
 
   pub reached : (book : List ℕ) → (given book ≡ 0) ⊎ (given book ≡ 12) → Reached book
   reached book j =
       by-test (λ _. Reached book) (eqb (callRefusal c) 0)
       (λ t. with-memory (eqb-true (callRefusal c) 0 t))
-      (λ t. let some = eqb-false (callRefusal c) 0 t in idle book j (outcome-refused book refl some) (omega arith) (omega (arith, call-most c)))
+      (λ t. let some = eqb-false (callRefusal c) 0 t in idle book j (outcome-refused book refl some) some (call-not-12 c))
     where
       with-cues : callRefusal c ≡ 0 → readBook book ≡ cues (cuesIn (readBook book)) → Reached book
       with-cues fine read =
           let cs = cuesIn (readBook book) in
           by-test (λ _. Reached book) (ltb (c .entries) (3 * length cs))
-          (λ t. idle book j (outcome-few book fine read (ltb-true (c .entries) (3 * length cs) t)) (omega arith) (omega arith))
+          (λ t. idle book j (outcome-few book fine read (ltb-true (c .entries) (3 * length cs) t)) (λ z. omega arith) (λ z. omega arith))
           (λ t. let h = ltb-false (c .entries) (3 * length cs) t in record { read = read; three = h; is = outcome-works book fine read h })
 
       with-memory : callRefusal c ≡ 0 → Reached book
       with-memory fine =
           by-test (λ _. Reached book) (eqb (refusalOf (readBook book)) 0)
           (λ t. with-cues fine (accepted-book book (eqb-true (refusalOf (readBook book)) 0 t) .0))
-          (λ t. let some = eqb-false (refusalOf (readBook book)) 0 t in idle book j (outcome-book book fine some) (omega arith) (omega (arith, book-most book)))
+          (λ t. let some = eqb-false (refusalOf (readBook book)) 0 t in idle book j (outcome-book book fine some) some (λ z. omega (arith, book-most book)))

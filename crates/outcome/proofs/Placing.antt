@@ -1,6 +1,6 @@
 -- Placing and writing: the occurrence that a cue names, the entries of each cue, and a text folded beforehand, for any fold that changes nothing the second time. Assumes nothing.
 use mathlib.Core.Path.{_≡_, refl, sym, ap, ap₂, _∙_}
-use Prim.Native.Nat.{ℕ, suc, _+_, _-_, _*_, _≤_}
+use Prim.Native.Nat.{ℕ, zero, suc, _+_, _-_, _*_, _≤_}
 use native.Mathlib.Omega.{arith}
 use mathlib.Core.Bool.{true, cond, not}
 use mathlib.Core.List.{List, [], _∷_, _++_, map}
@@ -49,6 +49,15 @@ unfolding entriesOf
 entries-more text [] p = refl
 entries-more text (q ∷ places) p = ap (λ (l : List ℕ). q ∷ lineColumn text q .line ∷ lineColumn text q .column ∷ l) (entries-more text places p)
 
+-- the first of a place's three is the place
+pub entries-place : (text places : List ℕ) (index : ℕ) → getD (entriesOf text places) (3 * index) 0 ≡ getD places index 0
+unfolding entriesOf
+entries-place text [] index = refl
+entries-place text (p ∷ ps) zero = refl
+entries-place text (p ∷ ps) (suc index) =
+    let past : 3 * suc index ≡ suc (suc (suc (3 * index))) = omega arith in
+    ap (λ (n : ℕ). getD (entriesOf text (p ∷ ps)) n 0) past ∙ entries-place text ps index
+
 -- those of a place stand after those of the places before it
 entries-at : (text before : List ℕ) (p : ℕ) (later : List ℕ) → take 3 (drop (3 * length before) (entriesOf text (before ++ p ∷ later))) ≡ entriesOf text (p ∷ [])
 unfolding entriesOf
@@ -87,8 +96,10 @@ module _ (f : ℕ → ℕ) (text : List ℕ) where
       let long : length written ≡ 3 * length cs =
       entries-count text (ps ++ p ∷ qs) ∙ omega (arith, length-append ps (p ∷ qs), few, length-map later (placeOf f text), ap length e, length-append before (c ∷ later)) in
       let received-is : entries ≡ received entries₀ written = is ∙ ap (λ (l : List ℕ). received entries₀ (entriesOf text l)) split in
+      let there : isThere f text c ≡ true = all-there before c later (rw e at a) in
       record {
-        there = all-there before c later (rw e at a);
+        there = there;
+        named = cue-names f text c there;
         entered =
             ap (λ (l : List ℕ). take 3 (drop (3 * length before) l)) received-is
             ∙ front-holds entries₀ written (3 * length before) (omega arith) (omega (arith, ap length e, length-append before (c ∷ later)))
@@ -111,7 +122,7 @@ module _ (f : ℕ → ℕ) (twice : Idempotent f) where
   fault-folded text c = ap (λ (l : List ℕ). firstMet ((not (hasNth l (c .ordinal)), 12) ∷ [])) (occurrences-folded text c)
 
   -- the same places, the same fault
-  judge-folded : (text found : List ℕ) (xs : List Numbered) → judge f (map f text) found xs ≡ judge f text found xs
+  pub judge-folded : (text found : List ℕ) (xs : List Numbered) → judge f (map f text) found xs ≡ judge f text found xs
   unfolding judge
   judge-folded text found [] = refl
   judge-folded text found (x ∷ xs) =

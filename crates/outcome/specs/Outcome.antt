@@ -1,4 +1,4 @@
--- What resolving the cues of a book comes to (document 01, "Cue book, folding, lines"): which cues are chosen, where each stands, the first fault, and what is written. It says nothing
+-- What resolving the cues of a book comes to (document 01, "Cue book, folding, lines"; document 02, (iv)): which cues are chosen, where each stands, the first fault, and what is written. It says nothing
 -- of how the places are found.
 use Prim.Native.Nat.{ℕ, suc, _-_, _*_}
 use mathlib.Core.Bool.{Bool, true, false, cond, not}
@@ -7,6 +7,7 @@ use lib.ListN.{length, getD}
 use lib.Dec.{eqb, ltb}
 use Rattle.matching.specs.Occurrences.{occurrences, hasNth}
 use Rattle.matching.specs.Refusals.{Test, firstMet}
+use Rattle.fold.specs.Fold.{isPage}
 use Rattle.cues.specs.Cue.{Cue}
 use Rattle.cue_book.specs.Reading.{Reading, refused, cues}
 use Rattle.line_column.specs.LineColumn.{lineColumn}
@@ -85,21 +86,23 @@ resolution f text xs = let j : Judged = judge f text [] xs in record { refusal =
 
 -- ---- a call
 
--- the refusals before the book is read: a text of n bytes, and the lengths of text copy, phrase buffer and scratch
-abbrev pub memoryTests : ℕ → ℕ → ℕ → ℕ → List Test
-memoryTests n copy phrase scratch =
+-- the refusals before the book is read: a page, a text of n bytes, and the lengths of text copy, phrase buffer and scratch
+abbrev pub callTests : ℕ → ℕ → ℕ → ℕ → ℕ → List Test
+callTests page n copy phrase scratch =
     (ltb 32768 n, 4) ∷
     (ltb scratch 1281, 5) ∷
+    (not (isPage page), 14) ∷
     (ltb copy n, 6) ∷
     (ltb phrase 1024, 6) ∷
     []
 
-unfoldable pub memoryRefusal : ℕ → ℕ → ℕ → ℕ → ℕ
-unfolding firstMet
-memoryRefusal n copy phrase scratch = firstMet (memoryTests n copy phrase scratch)
+unfoldable pub callRefusalOf : ℕ → ℕ → ℕ → ℕ → ℕ → ℕ
+unfolding firstMet isPage
+callRefusalOf page n copy phrase scratch = firstMet (callTests page n copy phrase scratch)
 
 -- what a call is told and lent, but for the book. What the lent memory held plays no part: only its lengths do
 pub record Call : Type 0 where
+  pub page : ℕ
   pub text : List ℕ
   pub copy : ℕ
   pub phrase : ℕ
@@ -107,7 +110,7 @@ pub record Call : Type 0 where
   pub entries : ℕ
 
 abbrev pub callRefusal : Call → ℕ
-callRefusal c = memoryRefusal (length (c .text)) (c .copy) (c .phrase) (c .scratch)
+callRefusal c = callRefusalOf (c .page) (length (c .text)) (c .copy) (c .phrase) (c .scratch)
 
 -- whether the cues are resolved, so that the lent memory is worked on, and what comes of it
 pub record Outcome : Type 0 where
@@ -129,7 +132,7 @@ unfolding numberedFrom withCues
 withBook f c (refused number index) = refusing number index
 withBook f c (cues cs) = withCues f c (chosen cs)
 
--- the outcome of a call with what its book reads as
+-- the outcome of a call with what its book reads as, by its page's fold f
 unfoldable pub outcome : (ℕ → ℕ) → Call → Reading → Outcome
-unfolding memoryRefusal withBook
+unfolding callRefusalOf withBook
 outcome f c book = cond (eqb (callRefusal c) 0) (withBook f c book) (refusing (callRefusal c) 0)

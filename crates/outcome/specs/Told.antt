@@ -1,13 +1,15 @@
--- The words in which the outcome's laws are told to a caller.
+-- The words in which the outcome's laws are told to a caller, and the resolver's law of a fold.
 use mathlib.Core.Path.{_≡_}
 use Prim.Native.Nat.{ℕ, _+_, _*_, _≤_, _<_}
-use mathlib.Core.Bool.{true}
+use mathlib.Core.Bool.{true, false}
 use mathlib.Core.List.{List, [], _∷_, _++_, map}
 use lib.ListN.{length, getD, take, drop}
 use Rattle.matching.specs.Occurrences.{Occurs}
+use Rattle.matching.specs.Received.{received}
 use Rattle.cues.specs.Cue.{Cue}
+use Rattle.cue_book.specs.Reading.{Reading, cues, readBook}
 use Rattle.line_column.specs.LineColumn.{lineColumn}
-use Rattle.outcome.specs.Outcome.{Numbered, cueOccurrences, isThere, placeOf, cueFault, Judged, entriesOf}
+use Rattle.outcome.specs.Outcome.{Numbered, cueOccurrences, isThere, placeOf, cueFault, Judged, entriesOf, Call, Outcome, outcome}
 
 -- folding a second time changes nothing
 abbrev pub Idempotent : (ℕ → ℕ) → Type 0
@@ -49,13 +51,54 @@ module _ (f : ℕ → ℕ) (text : List ℕ) where
     pub places : j .places ≡ found ++ placesOf (cuesOf before)
     pub why : j .refusal ≡ cueFault f text (faulty .cue)
 
-  -- a cue came out: its occurrence exists, and its three entries stand after those of the cues before it
-  pub record CameOut (entries : List ℕ) (index : ℕ) (c : Cue) : Type 0 where
-    pub there : isThere f text c ≡ true
-    pub entered : take 3 (drop (3 * index) entries) ≡ entriesOf text (placeOf f text c ∷ [])
-
-  -- the folded phrase stands there, and exactly the occurrences before the cue's ordinal stand before it
+  -- the folded phrase stands there in the folded text, and exactly the occurrences before the cue's ordinal stand before it
   pub record Named (c : Cue) (place : ℕ) : Type 0 where
     pub stands : Occurs (map f (c .phrase)) (map f text) place
     pub earlier : (i : ℕ) → i + 1 < c .ordinal → getD (cueOccurrences f text c) i 0 < place
     pub later : (i : ℕ) → c .ordinal ≤ i → i < length (cueOccurrences f text c) → place < getD (cueOccurrences f text c) i 0
+
+  -- a cue came out: its occurrence exists, it is the one that the cue names, and the cue's three entries stand after those of the cues before it
+  pub record CameOut (entries : List ℕ) (index : ℕ) (c : Cue) : Type 0 where
+    pub there : isThere f text c ≡ true
+    pub named : Named c (placeOf f text c)
+    pub entered : take 3 (drop (3 * index) entries) ≡ entriesOf text (placeOf f text c ∷ [])
+
+  -- refusal 0: the book reads as cues, the number is how many, and every one of them came out
+  pub record AllOut (book entries : List ℕ) (number : ℕ) : Type 0 where
+    pub all : List Cue
+    pub read : readBook book ≡ cues all
+    pub number-is : number ≡ length all
+    pub out : (before : List Cue) (c : Cue) (later : List Cue) → all ≡ before ++ c ∷ later → CameOut entries (length before) c
+
+  -- refusal 12: the book reads as cues, and the number is the index of one whose occurrence does not exist; every cue before that one came out
+  pub record OneMissing (book entries : List ℕ) (number : ℕ) : Type 0 where
+    pub earlier : List Cue
+    pub missing : Cue
+    pub after : List Cue
+    pub read : readBook book ≡ cues (earlier ++ missing ∷ after)
+    pub number-is : number ≡ length earlier
+    pub absent : isThere f text missing ≡ false
+    pub out : (before : List Cue) (c : Cue) (later : List Cue) → earlier ≡ before ++ c ∷ later → CameOut entries (length before) c
+
+-- ---- the resolver's law (document 02, (iv)), of a fold
+
+-- the call with its text folded beforehand
+abbrev pub beforehand : (ℕ → ℕ) → Call → Call
+beforehand f c = record { page = c .page; text = map f (c .text); copy = c .copy; phrase = c .phrase; scratch = c .scratch; entries = c .entries }
+
+-- two outcomes give the same back, and the same place for each cue, which is the first of its three entries
+pub record SamePlaces (o o′ : Outcome) : Type 0 where
+  pub works : o .works ≡ o′ .works
+  pub refusal : o .resolution .refusal ≡ o′ .resolution .refusal
+  pub number : o .resolution .number ≡ o′ .resolution .number
+  pub written : length (o .resolution .written) ≡ length (o′ .resolution .written)
+  pub places : (index : ℕ) → getD (o .resolution .written) (3 * index) 0 ≡ getD (o′ .resolution .written) (3 * index) 0
+
+-- each cue comes out at the occurrence of its folded phrase in the folded text, and a text folded beforehand gives the same places; where the fold keeps lines, it gives the same of everything
+pub record Law (f : ℕ → ℕ) : Type 0 where
+  pub all-out : (c : Call) (book entries : List ℕ) → length entries ≡ c .entries → let o = outcome f c (readBook book) .resolution in
+      o .refusal ≡ 0 → AllOut f (c .text) book (received entries (o .written)) (o .number)
+  pub one-missing : (c : Call) (book entries : List ℕ) → length entries ≡ c .entries → let o = outcome f c (readBook book) .resolution in
+      o .refusal ≡ 12 → OneMissing f (c .text) book (received entries (o .written)) (o .number)
+  pub same-places : (c : Call) (book : Reading) → SamePlaces (outcome f (beforehand f c) book) (outcome f c book)
+  pub same-lines : KeepsLines f → (c : Call) (book : Reading) → outcome f (beforehand f c) book ≡ outcome f c book

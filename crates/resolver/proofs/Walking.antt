@@ -16,7 +16,6 @@ use Rattle.matching.specs.Received.{received}
 use Rattle.matching.proofs.CaseAnalysis.{by-test}
 use Rattle.matching.proofs.Received.{received-none, received-three}
 use Rattle.matching.proofs.Find.{none-refused}
-use Rattle.fold.specs.Fold.{folded}
 use Rattle.fjs.specs.declared.Place.{Place}
 use Rattle.fjs.specs.declared.Place.the-variants.{Refused, At, Nothing}
 use Rattle.fjs.proofs.Place as places
@@ -72,7 +71,7 @@ module _ (positions : List ℕ) (ordinal : ℕ) {r : Place} (is : r ≡ nthOf po
 
 -- ---- along the walk: the cues up to a place are judged, their entries put, and they and what the rest is judged are the whole
 
-pub record Along (book text : List ℕ) (cs : List Cue) (entries₀ : List ℕ) (index at place : ℕ) (entries : List ℕ) : Type 0 where
+pub record Along (f : ℕ → ℕ) (book text : List ℕ) (cs : List Cue) (entries₀ : List ℕ) (index at place : ℕ) (entries : List ℕ) : Type 0 where
   pub rest : List Cue
   pub all : index + length rest ≡ length cs
   pub left : Left book index place rest
@@ -80,11 +79,11 @@ pub record Along (book text : List ℕ) (cs : List Cue) (entries₀ : List ℕ) 
   pub counted : length found ≡ index
   pub three : at ≡ 3 * index
   pub entered : entries ≡ received entries₀ (entriesOf text found)
-  pub whole : judge folded text [] (chosen cs) ≡ judge folded text found (numberedFrom index rest)
+  pub whole : judge f text [] (chosen cs) ≡ judge f text found (numberedFrom index rest)
 
-pub along-first : (book text : List ℕ) (cs : List Cue) (entries : List ℕ) → readBook book ≡ cues cs → Along book text cs entries 0 0 0 entries
+pub along-first : (f : ℕ → ℕ) (book text : List ℕ) (cs : List Cue) (entries : List ℕ) → readBook book ≡ cues cs → Along f book text cs entries 0 0 0 entries
 unfolding entriesOf
-along-first book text cs entries e =
+along-first f book text cs entries e =
     record { rest = cs; all = omega arith; left = left-all e; found = []; counted = refl; three = omega arith; entered = sym (received-none entries); whole = refl }
 
 -- the next cue
@@ -94,7 +93,7 @@ pub record Next (book : List ℕ) (index place : ℕ) (rest : List Cue) : Type 0
   pub is : rest ≡ cue ∷ later
   pub begun : First book index place cue later
 
-module _ {book text : List ℕ} {cs : List Cue} {entries₀ : List ℕ} {index at place : ℕ} {entries : List ℕ} (d : Along book text cs entries₀ index at place entries) where
+module _ {f : ℕ → ℕ} {book text : List ℕ} {cs : List Cue} {entries₀ : List ℕ} {index at place : ℕ} {entries : List ℕ} (d : Along f book text cs entries₀ index at place entries) where
   pub along-cue : index < length cs → Next book index place (d .rest)
   along-cue h = by-rest (d .rest) (d .all) (d .left)
     where
@@ -103,10 +102,10 @@ module _ {book text : List ℕ} {cs : List Cue} {entries₀ : List ℕ} {index a
       by-rest (c ∷ later) n l = record { cue = c; later = later; is = refl; begun = left-first l }
 
   -- no cue is left
-  pub along-end : length cs ≤ index → judge folded text [] (chosen cs) ≡ record { refusal = 0; number = index; places = d .found }
+  pub along-end : length cs ≤ index → judge f text [] (chosen cs) ≡ record { refusal = 0; number = index; places = d .found }
   unfolding numberedFrom
   along-end h =
-      d .whole ∙ ap (λ (l : List Cue). judge folded text (d .found) (numberedFrom index l)) (empty (d .rest) (omega (arith, d .all))) ∙ judge-end folded text (d .found)
+      d .whole ∙ ap (λ (l : List Cue). judge f text (d .found) (numberedFrom index l)) (empty (d .rest) (omega (arith, d .all))) ∙ judge-end f text (d .found)
       ∙ ap (λ (n : ℕ). record { refusal = 0; number = n; places = d .found }) (d .counted)
     where
       empty : (l : List Cue) → length l ≡ 0 → l ≡ []
@@ -114,47 +113,47 @@ module _ {book text : List ℕ} {cs : List Cue} {entries₀ : List ℕ} {index a
       empty (c ∷ l) e = absurd (omega arith)
 
   -- a cue's entries are put after those of the cues before it
-  pub along-put : (c : Cue) {position : ℕ} → position ≡ placeOf folded text c
-      → set (set (set entries at position) (at + 1) (lineColumn text position .line)) (at + 2) (lineColumn text position .column) ≡ received entries₀ (entriesOf text (d .found ++ placeOf folded text c ∷ []))
+  pub along-put : (c : Cue) {position : ℕ} → position ≡ placeOf f text c
+      → set (set (set entries at position) (at + 1) (lineColumn text position .line)) (at + 2) (lineColumn text position .column) ≡ received entries₀ (entriesOf text (d .found ++ placeOf f text c ∷ []))
   along-put c p =
       ap₂ (λ (l : List ℕ) (v : ℕ). set (set (set l at v) (at + 1) (lineColumn text v .line)) (at + 2) (lineColumn text v .column)) (d .entered) p
-      ∙ received-three entries₀ (entriesOf text (d .found)) at (placeOf folded text c) (lineColumn text (placeOf folded text c) .line) (lineColumn text (placeOf folded text c) .column)
+      ∙ received-three entries₀ (entriesOf text (d .found)) at (placeOf f text c) (lineColumn text (placeOf f text c) .line) (lineColumn text (placeOf f text c) .column)
       (entries-count text (d .found) ∙ omega (arith, d .counted, d .three))
-      ∙ ap (received entries₀) (sym (entries-more text (d .found) (placeOf folded text c)))
+      ∙ ap (received entries₀) (sym (entries-more text (d .found) (placeOf f text c)))
 
   module _ (n : Next book index place (d .rest)) where
     abbrev this : Numbered
     this = record { number = index; cue = n .cue }
 
-    goes-on : judge folded text [] (chosen cs) ≡ judge folded text (d .found) (this ∷ numberedFrom (suc index) (n .later))
+    goes-on : judge f text [] (chosen cs) ≡ judge f text (d .found) (this ∷ numberedFrom (suc index) (n .later))
     unfolding numberedFrom
-    goes-on = d .whole ∙ ap (λ (l : List Cue). judge folded text (d .found) (numberedFrom index l)) (n .is)
+    goes-on = d .whole ∙ ap (λ (l : List Cue). judge f text (d .found) (numberedFrom index l)) (n .is)
 
     -- the occurrence of this cue does not exist
-    pub along-missing : isThere folded text (n .cue) ≡ false → judge folded text [] (chosen cs) ≡ record { refusal = 12; number = index; places = d .found }
-    along-missing no-such = goes-on ∙ judge-missing folded text (d .found) this (numberedFrom (suc index) (n .later)) no-such
+    pub along-missing : isThere f text (n .cue) ≡ false → judge f text [] (chosen cs) ≡ record { refusal = 12; number = index; places = d .found }
+    along-missing no-such = goes-on ∙ judge-missing f text (d .found) this (numberedFrom (suc index) (n .later)) no-such
 
     -- it exists, and its entries are put
-    pub along-next : {end : ℕ} {entries′ : List ℕ} → isThere folded text (n .cue) ≡ true → end ≡ place + cueSize (drop place book)
-        → entries′ ≡ received entries₀ (entriesOf text (d .found ++ placeOf folded text (n .cue) ∷ [])) → Along book text cs entries₀ (index + 1) (at + 3) end entries′
+    pub along-next : {end : ℕ} {entries′ : List ℕ} → isThere f text (n .cue) ≡ true → end ≡ place + cueSize (drop place book)
+        → entries′ ≡ received entries₀ (entriesOf text (d .found ++ placeOf f text (n .cue) ∷ [])) → Along f book text cs entries₀ (index + 1) (at + 3) end entries′
     along-next there e put =
         record {
           rest = n .later;
           all = omega (arith, d .all, ap length (n .is));
           left = n .begun .then e;
-          found = d .found ++ placeOf folded text (n .cue) ∷ [];
-          counted = length-append (d .found) (placeOf folded text (n .cue) ∷ []) ∙ omega (arith, d .counted);
+          found = d .found ++ placeOf f text (n .cue) ∷ [];
+          counted = length-append (d .found) (placeOf f text (n .cue) ∷ []) ∙ omega (arith, d .counted);
           three = omega (arith, d .three);
           entered = put;
           whole =
-              goes-on ∙ judge-on folded text (d .found) this (numberedFrom (suc index) (n .later)) there
-              ∙ ap (λ (i : ℕ). judge folded text (d .found ++ placeOf folded text (n .cue) ∷ []) (numberedFrom i (n .later))) (sym (add-one index));
+              goes-on ∙ judge-on f text (d .found) this (numberedFrom (suc index) (n .later)) there
+              ∙ ap (λ (i : ℕ). judge f text (d .found ++ placeOf f text (n .cue) ∷ []) (numberedFrom i (n .later))) (sym (add-one index));
         }
 
 -- ---- the walk's answer
 
-pub placed : {book text entries entries′ places : List ℕ} {number index : ℕ} → judge folded text [] (chosen (cuesIn (readBook book))) ≡ record { refusal = number; number = index; places = places }
-    → entries′ ≡ received entries (entriesOf text places) → Placed book text entries (record { refusal = number; number = index }) entries′
+pub placed : {f : ℕ → ℕ} {book text entries entries′ places : List ℕ} {number index : ℕ} → judge f text [] (chosen (cuesIn (readBook book))) ≡ record { refusal = number; number = index; places = places }
+    → entries′ ≡ received entries (entriesOf text places) → Placed f book text entries (record { refusal = number; number = index }) entries′
 unfolding resolution
 placed {book} {text} {entries} e w =
     record {

@@ -1,4 +1,4 @@
-// The resolver (document 01, "Cue book, folding, lines"): from the cues of a book to place, line and column, as `outcome` defines it.
+// The resolver (document 01, "Cue book, folding, lines"; document 02, (iv)): from the cues of a book to place, line and column, as `outcome` defines it.
 // It depends on `cue_fields`, `cues` and `cue_book` for the cues, on `fold`, on `fjs` for the occurrence that a cue names, on `line_column` for the line rule, on `tables` to
 // clear the scratch, and on `matching` for the laws of lent lists and of occurrences.
 use cues::CueAnswer;
@@ -6,11 +6,12 @@ use fjs::Place;
 use line_column::LineColumn;
 use matching::Answer;
 ghost use mathlib.Core.Path.{_≡_};
+ghost use mathlib.Core.Bool.{true};
 ghost use mathlib.Core.List.{map};
 ghost use Prim.Native.Nat.{_+_, _≤_};
 ghost use lib.ListN.{length, set, replicate};
 ghost use Rattle.matching.specs.Occurrences.{occurrences};
-ghost use Rattle.fold.specs.Fold.{folded};
+ghost use Rattle.fold.specs.Fold.{isPage, foldOn};
 ghost use Rattle.fjs.specs.Nth.{nthOf};
 ghost use Rattle.line_column.specs.LineColumn.{lineColumn};
 ghost use Rattle.resolver.specs.Resolver.{Resolved};
@@ -29,17 +30,18 @@ fn clear_bytes(bytes: &mut [u8])
 
 // Where the occurrence that a cue names stands: its phrase is folded into the buffer, and the search stops there.
 fn find_cue(
+    page: u32,
     letters: &[u8],
     ordinal: u32,
     copy: &[u8],
     phrase: &mut [u8],
     scratch: &mut [u16],
 ) -> Place
-    requires { ⌜ (1 ≤ length (now letters)) × (length (now letters) ≤ 1024) ⌝ }
+    requires { ⌜ (isPage page ≡ true) × ((1 ≤ length (now letters)) × (length (now letters) ≤ 1024)) ⌝ }
     requires { ⌜ (length (now copy) ≤ 32768) × ((1024 ≤ length (now phrase)) × (1281 ≤ length (now scratch))) ⌝ }
-    ensures { λ r. ⌜ r ≡ nthOf (occurrences (map folded (now (letters .entry))) (now (copy .entry))) ordinal ⌝ }
+    ensures { λ r. ⌜ r ≡ nthOf (occurrences (map (foldOn page) (now (letters .entry))) (now (copy .entry))) ordinal ⌝ }
 {
-    fold::letters(letters, phrase);
+    fold::letters(page, letters, phrase);
     let m = letters.len();
     fjs::nth(&phrase[..m], copy, scratch, ordinal)
 }
@@ -73,6 +75,7 @@ fn put_entries(
 
 // Resolves cue by cue, reading the book's cues once more, up to the first one whose occurrence does not exist.
 fn resolve_cues(
+    page: u32,
     book: &[u8],
     cues: u32,
     text: &[u8],
@@ -81,8 +84,8 @@ fn resolve_cues(
     scratch: &mut [u16],
     entries: &mut [u32],
 ) -> Answer
-    requires { ⌜ Ready (now book) cues (now text) (now copy) (now phrase) (now scratch) (now entries) ⌝ }
-    ensures { λ r. ⌜ Placed (now (book .entry)) (now (text .entry)) (now (entries .entry)) r (now (entries .exit)) ⌝ }
+    requires { ⌜ Ready page (now book) cues (now text) (now copy) (now phrase) (now scratch) (now entries) ⌝ }
+    ensures { λ r. ⌜ Placed (foldOn page) (now (book .entry)) (now (text .entry)) (now (entries .entry)) r (now (entries .exit)) ⌝ }
 {
     let mut index = 0;
     let mut at = 0;
@@ -105,7 +108,7 @@ fn resolve_cues(
                 number: index,
             };
         };
-        let found = find_cue(&book[start..stop], ordinal, copy, phrase, scratch);
+        let found = find_cue(page, &book[start..stop], ordinal, copy, phrase, scratch);
         let Place::At(position) = found else {
             return Answer {
                 refusal: 12,
@@ -124,8 +127,9 @@ fn resolve_cues(
     }
 }
 
-// Resolves the cues of a book in a text: 0 and the number of cues, or the refusal and its number.
+// Resolves the cues of a book in a text, both folded by a page: 0 and the number of cues, or the refusal and its number.
 pub fn resolve(
+    page: u32,
     book: &[u8],
     text: &[u8],
     copy: &mut [u8],
@@ -133,10 +137,10 @@ pub fn resolve(
     scratch: &mut [u16],
     entries: &mut [u32],
 ) -> Answer
-    ensures { λ r. ⌜ Resolved (now (book .entry)) (now (text .entry)) (now (copy .entry)) (now (phrase .entry)) (now (scratch .entry)) (now (entries .entry)) r (now (copy .exit)) (now (phrase .exit)) (now (scratch .exit)) (now (entries .exit)) ⌝ }
+    ensures { λ r. ⌜ Resolved page (now (book .entry)) (now (text .entry)) (now (copy .entry)) (now (phrase .entry)) (now (scratch .entry)) (now (entries .entry)) r (now (copy .exit)) (now (phrase .exit)) (now (scratch .exit)) (now (entries .exit)) ⌝ }
 {
     let n = text.len();
-    let refusal = outcome::refused(n, copy.len(), phrase.len(), scratch.len());
+    let refusal = outcome::refused(page, n, copy.len(), phrase.len(), scratch.len());
     if refusal != 0 {
         return Answer { refusal, number: 0 };
     }
@@ -151,8 +155,9 @@ pub fn resolve(
             number: 0,
         };
     }
-    fold::letters(text, copy);
+    fold::letters(page, text, copy);
     let r = resolve_cues(
+        page,
         book,
         read.number,
         text,

@@ -395,6 +395,40 @@ fn places_told() {
     known(9, 8, 5, 5);
 }
 
+// A letter folded by a page: the refusal, and the number.
+fn fold_letter(page: u32, letter: u8) {
+    let r = fold::letter(page, letter);
+    io::write_all(1, b"fold");
+    number(page as u64);
+    number(letter as u64);
+    number(r.refusal as u64);
+    number(r.number as u64);
+    io::write_all(1, b"\n");
+}
+
+// Page 1's starred letters, the pairs of page 15 with some that it shares with page 1, and pages that there are not.
+fn folds() {
+    fold_letter(1, 0xC9);
+    fold_letter(1, 0xD7);
+    fold_letter(1, 0xDF);
+    fold_letter(1, 0xFF);
+    fold_letter(1, 0xBC);
+    fold_letter(15, 0xA6);
+    fold_letter(15, 0xA8);
+    fold_letter(15, 0xB4);
+    fold_letter(15, 0xB8);
+    fold_letter(15, 0xBC);
+    fold_letter(15, 0xBD);
+    fold_letter(15, 0xBE);
+    fold_letter(15, 0xFF);
+    fold_letter(15, 0xC9);
+    fold_letter(15, 0xD7);
+    fold_letter(15, 0xDF);
+    fold_letter(0, 0xC9);
+    fold_letter(2, 0xC9);
+    fold_letter(16, 0xC9);
+}
+
 fn main() {
     tables();
     letter_tables();
@@ -418,4 +452,5 @@ fn main() {
     cuts();
     endings();
     places_told();
+    folds();
 }

@@ -1,10 +1,10 @@
-//! Prints the show file of a libretto and a cue book: show [--latin1] TEXT BOOK
+//! Prints the show file of a libretto and a cue book: show [--page 1|15] [--bytes] TEXT BOOK
 //!
 //! It is `examples/show.c` over the safe interface and prints the same to the byte; what the show file holds is told there.
 
-use libretto::{find_all, fold_text, read_book, read_cue, resolve_all, CuePlace, Method, Refusal};
+use libretto::{find_all, fold_text, read_book, read_cue, resolve_all, CuePlace, Method, Page, Refusal};
 use std::env;
-use std::ffi::OsString;
+use std::ffi::{OsStr, OsString};
 use std::fmt::Display;
 use std::fs;
 use std::io::{self, BufWriter, Write};
@@ -16,6 +16,15 @@ const REFUSED: u8 = 1;
 const FAILED: u8 = 2;
 
 const PLACES_A_ROW: usize = 10;
+
+const USAGE: &str = "usage: show [--page 1|15] [--bytes] TEXT BOOK";
+
+/// The page of text and book, and whether letters are printed as the bytes that they are on it, instead of in UTF-8.
+#[derive(Clone, Copy)]
+struct Options {
+    page: Page,
+    as_bytes: bool,
+}
 
 /// A cue as it stands in the book, and its phrase folded.
 struct Cue<'a> {
@@ -43,20 +52,20 @@ impl Failure {
     }
 }
 
-fn fold_all(letters: &[u8]) -> Vec<u8> {
+fn fold_all(page: Page, letters: &[u8]) -> Vec<u8> {
     let mut folded = vec![0; letters.len()];
-    fold_text(letters, &mut folded);
+    fold_text(page, letters, &mut folded);
     folded
 }
 
 /// The cues of a book that the library has accepted as a whole.
-fn cues(book: &[u8]) -> Vec<Cue<'_>> {
+fn cues(page: Page, book: &[u8]) -> Vec<Cue<'_>> {
     let mut cues = Vec::new();
     let mut place = 0;
     while place < book.len() {
         let read = read_cue(book, place).expect("the book was read before");
         place = read.end;
-        cues.push(Cue { read, folded: fold_all(read.phrase) });
+        cues.push(Cue { read, folded: fold_all(page, read.phrase) });
     }
     cues
 }
@@ -66,38 +75,53 @@ fn refrain(cue: &Cue, folded_text: &[u8]) -> Vec<u32> {
     find_all(Method::Fjs, &cue.folded, folded_text).expect("the resolver has searched for this phrase in this text before")
 }
 
-/// Prints letters of ISO 8859-1.
-fn print_letters(out: &mut impl Write, letters: &[u8], latin1: bool) -> io::Result<()> {
+/// The sign of Unicode that a letter of the page is: that of the same number, except for eight letters of ISO 8859-15.
+fn sign_of(page: Page, letter: u8) -> char {
+    match (page, letter) {
+        (Page::Latin9, 0xa4) => '\u{20ac}',
+        (Page::Latin9, 0xa6) => '\u{160}',
+        (Page::Latin9, 0xa8) => '\u{161}',
+        (Page::Latin9, 0xb4) => '\u{17d}',
+        (Page::Latin9, 0xb8) => '\u{17e}',
+        (Page::Latin9, 0xbc) => '\u{152}',
+        (Page::Latin9, 0xbd) => '\u{153}',
+        (Page::Latin9, 0xbe) => '\u{178}',
+        _ => char::from(letter),
+    }
+}
+
+/// Prints letters of the page.
+fn print_letters(out: &mut impl Write, letters: &[u8], options: Options) -> io::Result<()> {
     for &letter in letters {
         match letter {
             b'\n' => out.write_all(b"\\n")?,
             b'\\' => out.write_all(b"\\\\")?,
             0..=0x1f | 0x7f..=0x9f => write!(out, "\\x{letter:02x}")?,
-            0x80.. if !latin1 => write!(out, "{}", char::from(letter))?,
+            0x80.. if !options.as_bytes => write!(out, "{}", sign_of(options.page, letter))?,
             _ => out.write_all(&[letter])?,
         }
     }
     Ok(())
 }
 
-fn print_phrase(out: &mut impl Write, cue: &Cue, latin1: bool) -> io::Result<()> {
+fn print_phrase(out: &mut impl Write, cue: &Cue, options: Options) -> io::Result<()> {
     out.write_all(b"\"")?;
-    print_letters(out, cue.read.phrase, latin1)?;
+    print_letters(out, cue.read.phrase, options)?;
     out.write_all(b"\"")
 }
 
-fn print_cues(out: &mut impl Write, cues: &[Cue], places: &[CuePlace], latin1: bool) -> io::Result<()> {
+fn print_cues(out: &mut impl Write, cues: &[Cue], places: &[CuePlace], options: Options) -> io::Result<()> {
     writeln!(out, "cue  place   line  column  title")?;
     for (index, (cue, CuePlace { place, line, column })) in cues.iter().zip(places).enumerate() {
         let title = cue.read.title;
         write!(out, "{index:3}  {place:5}  {line:5}  {column:6}{}", if title.is_empty() { "" } else { "  " })?;
-        print_letters(out, title, latin1)?;
+        print_letters(out, title, options)?;
         writeln!(out)?;
     }
     Ok(())
 }
 
-fn print_refrains(out: &mut impl Write, cues: &[Cue], folded_text: &[u8], latin1: bool) -> io::Result<()> {
+fn print_refrains(out: &mut impl Write, cues: &[Cue], folded_text: &[u8], options: Options) -> io::Result<()> {
     writeln!(out, "total  phrase, and below it its places")?;
     for (index, cue) in cues.iter().enumerate() {
         if cues[..index].iter().any(|earlier| earlier.folded == cue.folded) {
@@ -105,7 +129,7 @@ fn print_refrains(out: &mut impl Write, cues: &[Cue], folded_text: &[u8], latin1
         }
         let places = refrain(cue, folded_text);
         write!(out, "{:5}  ", places.len())?;
-        print_phrase(out, cue, latin1)?;
+        print_phrase(out, cue, options)?;
         for (k, place) in places.iter().enumerate() {
             write!(out, "{}{place:5}", if k % PLACES_A_ROW == 0 { "\n       " } else { "  " })?;
         }
@@ -115,43 +139,70 @@ fn print_refrains(out: &mut impl Write, cues: &[Cue], folded_text: &[u8], latin1
 }
 
 /// Tells of a missing occurrence which one it is and how many there are.
-fn tell_missing(told: &mut Vec<u8>, cue: &Cue, folded_text: &[u8], latin1: bool) -> io::Result<()> {
+fn tell_missing(told: &mut Vec<u8>, cue: &Cue, folded_text: &[u8], options: Options) -> io::Result<()> {
     write!(told, ": ordinal {} of ", cue.read.ordinal)?;
-    print_phrase(told, cue, latin1)?;
+    print_phrase(told, cue, options)?;
     write!(told, ", total {}", refrain(cue, folded_text).len())
 }
 
-fn show(text_path: &Path, book_path: &Path, latin1: bool) -> Result<(), Failure> {
+fn show(text_path: &Path, book_path: &Path, options: Options) -> Result<(), Failure> {
     let read = |path: &Path| fs::read(path).map_err(|error| Failure::failed(path.display(), &error));
     let (text, book) = (read(text_path)?, read(book_path)?);
 
     read_book(&book).map_err(|refused| Failure::refused(book_path, refused))?;
-    let cues = cues(&book);
-    let folded_text = fold_all(&text);
-    let places = resolve_all(&book, &text).map_err(|refused| {
+    let cues = cues(options.page, &book);
+    let folded_text = fold_all(options.page, &text);
+    let places = resolve_all(options.page, &book, &text).map_err(|refused| {
         let mut failure = Failure::refused(if refused.refusal == Refusal::LongText { text_path } else { book_path }, refused);
         if let (Refusal::NoOccurrence, Some(cue)) = (refused.refusal, refused.cue) {
-            tell_missing(&mut failure.told, &cues[cue], &folded_text, latin1).expect("a vector takes all that is written");
+            tell_missing(&mut failure.told, &cues[cue], &folded_text, options).expect("a vector takes all that is written");
         }
         failure
     })?;
 
     let mut out = BufWriter::new(io::stdout().lock());
-    print_cues(&mut out, &cues, &places, latin1)
+    print_cues(&mut out, &cues, &places, options)
         .and_then(|()| writeln!(out))
-        .and_then(|()| print_refrains(&mut out, &cues, &folded_text, latin1))
+        .and_then(|()| print_refrains(&mut out, &cues, &folded_text, options))
         .and_then(|()| out.flush())
         .map_err(|error| Failure::failed("standard output", &error))
 }
 
+fn named_page(argument: &OsStr) -> Option<Page> {
+    match argument.to_str()? {
+        "1" => Some(Page::Latin1),
+        "15" => Some(Page::Latin9),
+        _ => None,
+    }
+}
+
+/// Reads the options at the front of the arguments, each at most once, and gives them with the arguments after them; nothing if an option is wrong.
+fn read_options(mut arguments: &[OsString]) -> Option<(Options, &[OsString])> {
+    let (mut page, mut as_bytes) = (None, false);
+    while let [option, rest @ ..] = arguments {
+        match (option.to_str(), rest) {
+            (Some("--bytes"), _) if !as_bytes => {
+                as_bytes = true;
+                arguments = rest;
+            }
+            (Some("--page"), [number, rest @ ..]) if page.is_none() => {
+                page = Some(named_page(number)?);
+                arguments = rest;
+            }
+            _ if option.as_encoded_bytes().starts_with(b"--") => return None,
+            _ => break,
+        }
+    }
+    Some((Options { page: page.unwrap_or(Page::Latin1), as_bytes }, arguments))
+}
+
 fn main() -> ExitCode {
     let arguments: Vec<OsString> = env::args_os().skip(1).collect();
-    let latin1 = arguments.first().is_some_and(|first| first == "--latin1");
-    let [text, book] = &arguments[usize::from(latin1)..] else {
-        eprintln!("usage: show [--latin1] TEXT BOOK");
+    let Some((options, [text, book])) = read_options(&arguments) else {
+        eprintln!("{USAGE}");
         return ExitCode::from(FAILED);
     };
-    let Err(failure) = show(Path::new(text), Path::new(book), latin1) else {
+    let Err(failure) = show(Path::new(text), Path::new(book), options) else {
         return ExitCode::SUCCESS;
     };
     // Where standard error fails too, the exit status alone is left to tell it.

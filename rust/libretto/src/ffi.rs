@@ -1,6 +1,6 @@
 //! The C interface of the library, and the only unsafe code of this crate: one declaration and one call for each function.
 
-use crate::{RawAnswer, RawCue, RawField, RawFinding, RawMovesFinding, RawPart, ResolverMemory};
+use crate::{RawAnswer, RawCue, RawField, RawFinding, RawFolding, RawMovesFinding, RawPart, ResolverMemory};
 
 extern "C" {
     fn libretto_find(
@@ -43,9 +43,9 @@ extern "C" {
         answer_len: usize,
     ) -> RawAnswer;
 
-    fn libretto_fold(letter: u8) -> u8;
+    fn libretto_fold(page: u32, letter: u8) -> RawAnswer;
 
-    fn libretto_fold_text(text: *const u8, text_len: usize, target: *mut u8, target_len: usize) -> usize;
+    fn libretto_fold_text(page: u32, text: *const u8, text_len: usize, target: *mut u8, target_len: usize) -> RawFolding;
 
     fn libretto_read_field(book: *const u8, book_len: usize, place: usize, due: u32) -> RawField;
 
@@ -66,6 +66,7 @@ extern "C" {
     ) -> RawAnswer;
 
     fn libretto_resolve(
+        page: u32,
         book: *const u8,
         book_len: usize,
         text: *const u8,
@@ -145,17 +146,18 @@ pub(crate) fn relist(phrase: &[u8], text: &[u8], list: &[u32], start: usize, end
 }
 
 /// Calls `libretto_fold`.
-pub(crate) fn fold(letter: u8) -> u8 {
-    // SAFETY: the function takes and gives a number, and accepts every one.
-    unsafe { libretto_fold(letter) }
+pub(crate) fn fold(page: u32, letter: u8) -> RawAnswer {
+    // SAFETY: the function takes two numbers and accepts all of them. `RawAnswer` has the layout of the C structure (`repr(C)`, two `u32`).
+    unsafe { libretto_fold(page, letter) }
 }
 
 /// Calls `libretto_fold_text` on slices.
-pub(crate) fn fold_text(text: &[u8], target: &mut [u8]) -> usize {
+pub(crate) fn fold_text(page: u32, text: &[u8], target: &mut [u8]) -> RawFolding {
     // SAFETY: each pointer comes from a slice and stands beside that slice's own length, so it is not null (also where the slice is empty) and valid
     // for as many bytes: for reading with the text, for reading and writing with the target. The exclusive borrow keeps the target apart from the
-    // text, and both borrows outlive the call, which keeps no pointer. The library accepts any lengths. `usize` is `size_t`.
-    unsafe { libretto_fold_text(text.as_ptr(), text.len(), target.as_mut_ptr(), target.len()) }
+    // text, and both borrows outlive the call, which keeps no pointer. The library accepts any page number and any lengths. `RawFolding` has the
+    // layout of the C structure (`repr(C)`, a `u32` and a `usize`, which is `size_t`).
+    unsafe { libretto_fold_text(page, text.as_ptr(), text.len(), target.as_mut_ptr(), target.len()) }
 }
 
 /// Calls `libretto_read_field` on a slice.
@@ -197,13 +199,14 @@ pub(crate) fn write_cue(buffer: &mut [u8], phrase: &[u8], ordinal: u32, title: &
 }
 
 /// Calls `libretto_resolve` on slices.
-pub(crate) fn resolve(book: &[u8], text: &[u8], memory: &mut ResolverMemory<'_>) -> RawAnswer {
+pub(crate) fn resolve(page: u32, book: &[u8], text: &[u8], memory: &mut ResolverMemory<'_>) -> RawAnswer {
     // SAFETY: each pointer comes from a slice and stands beside that slice's own length, so it is aligned, not null (also where the slice is
     // empty), and valid for as many entries: for reading with book and text, for reading and writing with the four slices of the memory. The
     // exclusive borrows keep those four apart from each other and from book and text, and all six borrows outlive the call, which keeps no pointer.
-    // The library accepts any bytes and any lengths. `RawAnswer` has the layout of the C structure (`repr(C)`, two `u32`).
+    // The library accepts any page number, any bytes and any lengths. `RawAnswer` has the layout of the C structure (`repr(C)`, two `u32`).
     unsafe {
         libretto_resolve(
+            page,
             book.as_ptr(),
             book.len(),
             text.as_ptr(),

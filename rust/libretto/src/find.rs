@@ -102,7 +102,7 @@ pub struct RawFinding {
 }
 
 /// Finds every place of the phrase in the text, overlapping ones included, counted from 0. Letters are compared as they stand: a capital letter and
-/// its small one differ. To find whatever the case, fold phrase and text first ([`fold_text`](crate::fold_text)), as the resolver does.
+/// its small one differ. To find whatever the case, fold phrase and text first by one page ([`fold_text`](crate::fold_text)), as the resolver does.
 ///
 /// Afterwards the list holds the first places, rising, up to its length; its entries past those keep their values. A short list is no refusal. The
 /// scratch's front holds the method's tables ([`Method::scratch_entries`] of them); its entries past them keep their values. A refused call leaves

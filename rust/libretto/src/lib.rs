@@ -2,8 +2,9 @@
 //!
 //! All engines give the same list of places; each gives the count of its own letter comparisons. The library allocates nothing: the caller lends a
 //! scratch of 16-bit numbers for the tables and a list of 32-bit numbers for the places. [`find_all`] lends both itself. The engines compare letters
-//! as they stand; the resolver alone folds them, and [`fold_text`] folds for whoever wants to find in the same way. [`find_moves`] also lists by which
-//! rule the window of FJS moved. [`relist`] makes a phrase's list for a text in which a stretch is replaced from its list for the old one.
+//! as they stand; the resolver alone folds them, and [`fold_text`] folds for whoever wants to find in the same way, by a [`Page`]: ISO 8859-1 or
+//! ISO 8859-15. [`find_moves`] also lists by which rule the window of FJS moved. [`relist`] makes a phrase's list for a text in which a stretch is
+//! replaced from its list for the old one.
 //!
 //! A cue book is 0 to 999 cues, each with a phrase, an ordinal and a title: [`write_cue`] writes one, [`read_cue`] reads one, [`read_book`] tests a
 //! whole book, and [`title`] shows a title where it stands. [`resolve`] finds the place, line and column of each cue in a text, in lent memory too;
@@ -34,6 +35,7 @@ mod cue_book;
 #[allow(unsafe_code)]
 mod ffi;
 mod find;
+mod fold;
 mod late_cuts;
 mod moves;
 mod refusal;
@@ -42,6 +44,7 @@ mod resolver;
 pub use cue_book::{read_book, read_book_raw, read_cue, read_cue_raw, read_field, read_field_raw, title, title_raw, write_cue, write_cue_raw};
 pub use cue_book::{BookError, Cue, Due, Field, RawCue, RawField, RawPart, CUES_MAX, CUE_MAX, ORDINAL_MAX, TITLE_MAX};
 pub use find::{find, find_all, find_raw, Finding, Method, RawFinding};
+pub use fold::{fold, fold_raw, fold_text, fold_text_raw, Page, RawFolding};
 pub use late_cuts::{relist, relist_all, relist_raw};
 pub use moves::{find_moves, find_moves_all, find_moves_raw, Move, MovesFinding, RawMovesFinding, Rule, MOVE_ENTRIES};
 pub use refusal::{RawAnswer, Refusal};
@@ -53,29 +56,3 @@ pub const PHRASE_MAX: usize = 1024;
 
 /// The longest text of a find and of the resolver, in bytes.
 pub const TEXT_MAX: usize = 32_768;
-
-/// What a letter of ISO 8859-1 folds to: the small letter of a capital one, and every other byte itself.
-///
-/// ```
-/// assert_eq!(libretto::fold(0xc9), 0xe9);
-/// assert_eq!(libretto::fold(0xd7), 0xd7);
-/// ```
-pub fn fold(letter: u8) -> u8 {
-    ffi::fold(letter)
-}
-
-/// Folds the letters of a text into the target's front, as many as it has room for, and gives their number, the smaller of the two lengths. The
-/// target's bytes past them keep their values.
-///
-/// ```
-/// use libretto::fold_text;
-///
-/// let mut target = *b"......";
-/// assert_eq!(fold_text(b"L\xc0 La", &mut target), 5);
-/// assert_eq!(&target, b"l\xe0 la.");
-/// assert_eq!(fold_text(b"TRALALA", &mut target[..3]), 3);
-/// assert_eq!(&target, b"trala.");
-/// ```
-pub fn fold_text(text: &[u8], target: &mut [u8]) -> usize {
-    ffi::fold_text(text, target)
-}

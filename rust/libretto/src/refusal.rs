@@ -4,7 +4,7 @@ use std::error::Error;
 use std::fmt;
 
 /// Why a call was refused. The library tests in the order of the numbers, and the first that applies is returned; only 7 to 9 come as a book is
-/// read, and [`relist`](crate::relist) tests the new text's length last.
+/// read, [`resolve`](crate::resolve) tests the page (14) after 5 and before 6, and [`relist`](crate::relist) tests the new text's length last.
 #[derive(Clone, Copy, Debug, PartialEq, Eq, Hash)]
 #[repr(u32)]
 pub enum Refusal {
@@ -34,6 +34,8 @@ pub enum Refusal {
     NoOccurrence = 12,
     /// A cue to be written is longer than its buffer.
     LongCue = 13,
+    /// The page is neither 1 nor 15. No call with a [`Page`](crate::Page) meets this.
+    UnknownPage = 14,
     /// A stretch ends before it starts, or past the text.
     BadStretch = 17,
     /// A list does not strictly rise, or holds a place where the phrase would pass the text's end.
@@ -68,6 +70,7 @@ impl Refusal {
             11 => Some(Refusal::ShortEntries),
             12 => Some(Refusal::NoOccurrence),
             13 => Some(Refusal::LongCue),
+            14 => Some(Refusal::UnknownPage),
             17 => Some(Refusal::BadStretch),
             18 => Some(Refusal::BadList),
             _ => None,
@@ -99,6 +102,7 @@ impl fmt::Display for Refusal {
             Refusal::ShortEntries => "the cue entries are fewer than 3 for each cue",
             Refusal::NoOccurrence => "the cue's occurrence does not exist",
             Refusal::LongCue => "the cue to be written is longer than its buffer",
+            Refusal::UnknownPage => "the page is neither 1 nor 15",
             Refusal::BadStretch => "the stretch ends before it starts, or past the text",
             Refusal::BadList => "the list does not strictly rise, or holds a place where the phrase would pass the text's end",
         })
@@ -113,7 +117,7 @@ impl Error for Refusal {}
 pub struct RawAnswer {
     /// The refusal's number; 0 if the call was not refused.
     pub refusal: u32,
-    /// A total of places, a number of cues or of bytes, or a cue's index; each function names it.
+    /// A total of places, a number of cues or of bytes, a cue's index, or a letter; each function names it.
     pub number: u32,
 }
 
@@ -123,13 +127,14 @@ mod tests {
 
     #[test]
     fn refusals_have_their_numbers_and_sentences() {
-        for number in (1..=13).chain(17..=18) {
+        for number in (1..=14).chain(17..=18) {
             let refusal = Refusal::from_number(number).unwrap();
             assert_eq!(refusal.number(), number);
             assert!(!refusal.to_string().is_empty());
         }
-        for number in [0, 14, 15, 16, 19, u32::MAX] {
+        for number in [0, 15, 16, 19, u32::MAX] {
             assert_eq!(Refusal::from_number(number), None);
         }
+        assert_eq!(Refusal::UnknownPage.to_string(), "the page is neither 1 nor 15");
     }
 }

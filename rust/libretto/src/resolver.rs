@@ -1,6 +1,6 @@
 //! The resolver: from the cues of a book to their places in a text.
 
-use crate::{ffi, read_book, RawAnswer, Refusal, TEXT_MAX};
+use crate::{ffi, read_book, Page, RawAnswer, Refusal, TEXT_MAX};
 use std::error::Error;
 use std::fmt;
 
@@ -42,7 +42,7 @@ pub struct ResolverMemory<'a> {
 pub struct ResolveError {
     /// The refusal.
     pub refusal: Refusal,
-    /// The cue's index, from 0; none where the text or the lent memory was refused. With [`Refusal::LongBook`] it is 999.
+    /// The cue's index, from 0; none where the text, the page or the lent memory was refused. With [`Refusal::LongBook`] it is 999.
     pub cue: Option<usize>,
 }
 
@@ -58,60 +58,65 @@ impl fmt::Display for ResolveError {
 impl Error for ResolveError {}
 
 /// Finds the place of each cue of a book in the text and gives the number of cues. The place is that of the occurrence which the cue's ordinal counts,
-/// from 1, of its folded phrase in the folded text, overlapping ones included.
+/// from 1, of its folded phrase in the folded text, overlapping ones included. Both are folded by the page, as [`fold`](crate::fold) does; a text that
+/// was folded by it beforehand gives the same places, lines and columns.
 ///
 /// A refused call leaves the lent memory as it was, except with [`Refusal::NoOccurrence`]: then the entries of the cues before the refused one are
 /// written, its own and the later ones keep their values, and the rest is as after success.
 ///
 /// ```
-/// use libretto::{resolve, Refusal, ResolveError, ResolverMemory, PHRASE_BUFFER, RESOLVER_SCRATCH};
+/// use libretto::{resolve, Page, Refusal, ResolveError, ResolverMemory, PHRASE_BUFFER, RESOLVER_SCRATCH};
 ///
 /// let book = b"\x01\x00\x02la\x02\x00\x02\x00\x02\x03\x00\x02No";
 /// let (mut copy, mut phrase, mut scratch, mut entries) = ([0; 5], [0; PHRASE_BUFFER], [0; RESOLVER_SCRATCH], [0; 3]);
 /// let mut memory = ResolverMemory { copy: &mut copy, phrase: &mut phrase, scratch: &mut scratch, entries: &mut entries };
 ///
-/// assert_eq!(resolve(book, b"LA\nla", &mut memory), Ok(1));
+/// assert_eq!(resolve(Page::Latin1, book, b"LA\nla", &mut memory), Ok(1));
 /// assert_eq!((&*memory.entries, &*memory.copy), (&[3, 2, 1][..], &b"la\nla"[..]));
 ///
 /// let missing = ResolveError { refusal: Refusal::NoOccurrence, cue: Some(0) };
-/// assert_eq!(resolve(book, b"la", &mut memory), Err(missing));
+/// assert_eq!(resolve(Page::Latin1, book, b"la", &mut memory), Err(missing));
 /// ```
-pub fn resolve(book: &[u8], text: &[u8], memory: &mut ResolverMemory<'_>) -> Result<usize, ResolveError> {
-    let raw = resolve_raw(book, text, memory);
+pub fn resolve(page: Page, book: &[u8], text: &[u8], memory: &mut ResolverMemory<'_>) -> Result<usize, ResolveError> {
+    let raw = resolve_raw(page.number(), book, text, memory);
     let number = raw.number as usize;
-    Refusal::check(raw.refusal).map(|()| number).map_err(|refusal| {
-        let of_no_cue = [Refusal::LongText, Refusal::ShortScratch, Refusal::ShortBuffer, Refusal::ShortEntries].contains(&refusal);
-        ResolveError { refusal, cue: (!of_no_cue).then_some(number) }
-    })
+    Refusal::check(raw.refusal).map(|()| number).map_err(|refusal| ResolveError { refusal, cue: names_a_cue(refusal).then_some(number) })
 }
 
-/// [`resolve`] with the refusal's number in place of a [`Refusal`]. The answer's number is the number of cues, or the index of the cue that was
-/// refused, or 0 where no cue was.
+/// Whether the number of a refused call is a cue's index: not where the text, the page or the lent memory was refused.
+fn names_a_cue(refusal: Refusal) -> bool {
+    !matches!(refusal, Refusal::LongText | Refusal::ShortScratch | Refusal::UnknownPage | Refusal::ShortBuffer | Refusal::ShortEntries)
+}
+
+/// [`resolve`] with a page number, which need not be that of a page, and with the refusal's number in place of a [`Refusal`]. The answer's number is the
+/// number of cues, or the index of the cue that was refused, or 0 where no cue was.
 ///
 /// ```
 /// use libretto::{resolve_raw, ResolverMemory};
-/// let raw = resolve_raw(b"", b"la", &mut ResolverMemory { copy: &mut [], phrase: &mut [], scratch: &mut [], entries: &mut [] });
+/// let raw = resolve_raw(1, b"", b"la", &mut ResolverMemory { copy: &mut [], phrase: &mut [], scratch: &mut [], entries: &mut [] });
 /// assert_eq!((raw.refusal, raw.number), (5, 0));
+/// let raw = resolve_raw(2, b"", b"la", &mut ResolverMemory { copy: &mut [], phrase: &mut [], scratch: &mut [0; 1281], entries: &mut [] });
+/// assert_eq!((raw.refusal, raw.number), (14, 0));
 /// ```
-pub fn resolve_raw(book: &[u8], text: &[u8], memory: &mut ResolverMemory<'_>) -> RawAnswer {
-    ffi::resolve(book, text, memory)
+pub fn resolve_raw(page: u32, book: &[u8], text: &[u8], memory: &mut ResolverMemory<'_>) -> RawAnswer {
+    ffi::resolve(page, book, text, memory)
 }
 
 /// The places of all cues of a book in the text. The memory that the resolver needs is allocated here.
 ///
 /// ```
-/// use libretto::{resolve_all, CuePlace};
+/// use libretto::{resolve_all, CuePlace, Page};
 ///
 /// let book = b"\x01\x00\x02la\x02\x00\x02\x00\x02\x03\x00\x02No";
-/// assert_eq!(resolve_all(book, b"la,\nLa")?, [CuePlace { place: 4, line: 2, column: 1 }]);
+/// assert_eq!(resolve_all(Page::Latin1, book, b"la,\nLa")?, [CuePlace { place: 4, line: 2, column: 1 }]);
 /// # Ok::<(), libretto::ResolveError>(())
 /// ```
-pub fn resolve_all(book: &[u8], text: &[u8]) -> Result<Vec<CuePlace>, ResolveError> {
+pub fn resolve_all(page: Page, book: &[u8], text: &[u8]) -> Result<Vec<CuePlace>, ResolveError> {
     // A longer text is refused, and so is a book that has no number of cues, so neither needs memory.
     let mut copy = vec![0; text.len().min(TEXT_MAX)];
     let mut entries = vec![0; CUE_ENTRIES * read_book(book).unwrap_or(0)];
     let mut memory = ResolverMemory { copy: &mut copy, phrase: &mut [0; PHRASE_BUFFER], scratch: &mut [0; RESOLVER_SCRATCH], entries: &mut entries };
-    resolve(book, text, &mut memory)?;
+    resolve(page, book, text, &mut memory)?;
     Ok(entries.chunks_exact(CUE_ENTRIES).map(|entry| CuePlace { place: entry[0], line: entry[1], column: entry[2] }).collect())
 }
 
@@ -135,14 +140,24 @@ mod tests {
     fn accents_and_overlaps() {
         let book = book(&[(b"\xc9T\xe9", 2), (b"\n", 1), (b"x", 1)]);
         let place = |place, line, column| CuePlace { place, line, column };
-        assert_eq!(resolve_all(&book, b"\n\xe9t\xc9T\xe9 X"), Ok(vec![place(3, 2, 3), place(0, 1, 1), place(7, 2, 7)]));
-        assert_eq!(resolve_all(&[], b"la"), Ok(vec![]));
+        for page in Page::ALL {
+            assert_eq!(resolve_all(page, &book, b"\n\xe9t\xc9T\xe9 X"), Ok(vec![place(3, 2, 3), place(0, 1, 1), place(7, 2, 7)]));
+            assert_eq!(resolve_all(page, &[], b"la"), Ok(vec![]));
+        }
+    }
+
+    #[test]
+    fn letters_of_page_15() {
+        let book = book(&[(b"c\xbdur", 1)]);
+        assert_eq!(resolve_all(Page::Latin9, &book, b"C\xbcUR"), Ok(vec![CuePlace { place: 0, line: 1, column: 1 }]));
+        let missing = ResolveError { refusal: Refusal::NoOccurrence, cue: Some(0) };
+        assert_eq!(resolve_all(Page::Latin1, &book, b"C\xbcUR"), Err(missing));
     }
 
     #[test]
     fn refusals_name_a_cue_where_there_is_one() {
         let book = book(&[(b"la", 1), (b"la", 3)]);
-        let refused = |book: &[u8], text: &[u8]| resolve_all(book, text).unwrap_err();
+        let refused = |book: &[u8], text: &[u8]| resolve_all(Page::Latin1, book, text).unwrap_err();
         let missing = refused(&book, b"la la");
         assert_eq!(missing, ResolveError { refusal: Refusal::NoOccurrence, cue: Some(1) });
         assert_eq!(missing.to_string(), "cue 1: the cue's occurrence does not exist");
@@ -159,12 +174,20 @@ mod tests {
         let refused = |copy, phrase, scratch, entries| {
             let (mut copy, mut phrase, mut scratch, mut entries) = (vec![7; copy], vec![7; phrase], vec![7; scratch], vec![7; entries]);
             let mut memory = ResolverMemory { copy: &mut copy, phrase: &mut phrase, scratch: &mut scratch, entries: &mut entries };
-            resolve(&book, b"la", &mut memory).map_err(|refused| (refused.refusal, refused.cue))
+            resolve(Page::Latin1, &book, b"la", &mut memory).map_err(|refused| (refused.refusal, refused.cue))
         };
         assert_eq!(refused(2, PHRASE_BUFFER, RESOLVER_SCRATCH, CUE_ENTRIES), Ok(1));
         assert_eq!(refused(2, PHRASE_BUFFER, RESOLVER_SCRATCH - 1, CUE_ENTRIES), Err((Refusal::ShortScratch, None)));
         assert_eq!(refused(1, PHRASE_BUFFER, RESOLVER_SCRATCH, CUE_ENTRIES), Err((Refusal::ShortBuffer, None)));
         assert_eq!(refused(2, PHRASE_BUFFER - 1, RESOLVER_SCRATCH, CUE_ENTRIES), Err((Refusal::ShortBuffer, None)));
         assert_eq!(refused(2, PHRASE_BUFFER, RESOLVER_SCRATCH, CUE_ENTRIES - 1), Err((Refusal::ShortEntries, None)));
+    }
+
+    #[test]
+    fn refusals_that_name_a_cue() {
+        for number in [4, 5, 14, 6, 7, 8, 9, 10, 11, 12] {
+            let refusal = Refusal::from_number(number).unwrap();
+            assert_eq!(names_a_cue(refusal), [7, 8, 9, 10, 12].contains(&number), "{refusal}");
+        }
     }
 }

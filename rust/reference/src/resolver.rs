@@ -1,17 +1,21 @@
-//! Document 01, "Cue book, folding, lines": the resolver, and "What a refused call hands back", rows 4 to 12. Document 02 (i): the line rule.
+//! Document 01, "Cue book, folding, lines": the resolver, and "What a refused call hands back", rows 4 to 12. Document 02 (i): the line rule;
+//! (iv): the page.
 
 use crate::{cues, fold};
 use std::ops::Range;
 
 /// 0 and the number of cues, or the refusal's number with a cue's index; and what the lent memory holds afterwards.
-pub fn resolve(book: &[u8], text: &[u8], copy: &mut [u8], phrase: &mut [u8], scratch: &mut [u16], entries: &mut [u32]) -> (u32, u32) {
-    // The refusals 4 to 6, then those of the whole book, then 11; nothing is written.
+pub fn resolve(page: u32, book: &[u8], text: &[u8], copy: &mut [u8], phrase: &mut [u8], scratch: &mut [u16], entries: &mut [u32]) -> (u32, u32) {
+    // The refusals 4 and 5, then 14, then 6, then those of the whole book, then 11; nothing is written.
     if text.len() > 32_768 {
         return (4, 0);
     }
     if scratch.len() < 1281 {
         return (5, 0);
     }
+    let Some(rule) = fold::rule(page) else {
+        return (14, 0);
+    };
     if copy.len() < text.len() || phrase.len() < 1024 {
         return (6, 0);
     }
@@ -24,6 +28,7 @@ pub fn resolve(book: &[u8], text: &[u8], copy: &mut [u8], phrase: &mut [u8], scr
     }
 
     // The copy's first n bytes are the folded text, and the phrase buffer and scratch are 0 throughout, whether a cue meets 12 or not.
+    let fold_all = |letters: &[u8]| letters.iter().map(|&letter| rule(letter)).collect::<Vec<u8>>();
     let folded = fold_all(text);
     copy[..text.len()].copy_from_slice(&folded);
     phrase.fill(0);
@@ -39,10 +44,6 @@ pub fn resolve(book: &[u8], text: &[u8], copy: &mut [u8], phrase: &mut [u8], scr
         entries[3 * index..3 * index + 3].copy_from_slice(&[place, line, column].map(|number| number as u32));
     }
     (0, cues.len() as u32)
-}
-
-fn fold_all(letters: &[u8]) -> Vec<u8> {
-    letters.iter().map(|&letter| fold(letter)).collect()
 }
 
 /// The place of this occurrence; ordinal 1 is the first. Each place in turn is compared with the whole phrase.

@@ -1,9 +1,9 @@
-//! The worked examples of document 01, "The finder program" and "Refrains to try", and of document 02, (ii), (v), (x), (xi) and (xiii), and the tests
-//! that books, cues and lent memory meet.
+//! The worked examples of document 01, "The finder program" and "Refrains to try", and of document 02, (ii), (iv), (v), (x), (xi) and (xiii), and
+//! the tests that books, cues and lent memory meet.
 
 use crate::{boyer_moore, double_window, fjs, horspool, improved_fjs, kmp, sunday};
 use crate::{cues, read_book, read_cue, read_due, read_field, title, write_cue, Cue, Field};
-use crate::{endings, find, find_moves, finder_output, fold, fold_text, line_and_column, max_shift_table, resolve, widest_gap};
+use crate::{endings, find, find_moves, finder_output, fold, fold_text, folding_rule, line_and_column, max_shift_table, resolve, widest_gap};
 use crate::{new_text, relist};
 
 /// Total, comparisons and places by a method, with memory enough.
@@ -951,12 +951,41 @@ fn starred_book() {
 
 #[test]
 fn starred_folds() {
-    assert_eq!([0xc9, 0xd7, 0xdf, 0xff].map(fold), [0xe9, 0xd7, 0xdf, 0xff]);
-    let mut target = *b"xyz";
-    assert_eq!(fold_text(b"LA", &mut target), 2);
-    assert_eq!(&target, b"laz");
-    assert_eq!(fold_text(b"ABCD", &mut target), 3);
-    assert_eq!(&target, b"abc");
+    for page in [1, 15] {
+        assert_eq!([0xc9, 0xd7, 0xdf, 0xff].map(|letter| fold(page, letter)), [(0, 0xe9), (0, 0xd7), (0, 0xdf), (0, 0xff)]);
+        let mut target = *b"xyz";
+        assert_eq!(fold_text(page, b"LA", &mut target), (0, 2));
+        assert_eq!(&target, b"laz");
+        assert_eq!(fold_text(page, b"ABCD", &mut target), (0, 3));
+        assert_eq!(&target, b"abc");
+    }
+}
+
+/// Document 02 (iv): the four pairs, which page 1 leaves as they are; nothing else differs; and a second folding changes nothing.
+#[test]
+fn pages() {
+    let (page_1, page_15) = (folding_rule(1).unwrap(), folding_rule(15).unwrap());
+    let pairs = [(0xa6, 0xa8), (0xb4, 0xb8), (0xbc, 0xbd), (0xbe, 0xff)];
+    for (first, second) in pairs {
+        assert_eq!([page_15(first), page_15(second)], [second, second]);
+        assert_eq!([page_1(first), page_1(second)], [first, second]);
+    }
+    for letter in 0..=255 {
+        let in_a_pair = pairs.iter().any(|&(first, _)| first == letter);
+        assert_eq!(page_1(letter) != page_15(letter), in_a_pair, "letter {letter:#04x}");
+        assert_eq!((page_1(page_1(letter)), page_15(page_15(letter))), (page_1(letter), page_15(letter)), "letter {letter:#04x}");
+        assert_eq!((fold(1, letter), fold(15, letter)), ((0, page_1(letter).into()), (0, page_15(letter).into())));
+    }
+}
+
+#[test]
+fn other_pages() {
+    for page in [0, 2, 14, 16, 257, 271, 0x10001, 0x1000f, 1 << 31, u32::MAX] {
+        assert!(folding_rule(page).is_none(), "page {page}");
+        assert_eq!(fold(page, b'A'), (14, 0), "page {page}");
+        let mut target = *b"xyz";
+        assert_eq!((fold_text(page, b"LA", &mut target), target), ((14, 0), *b"xyz"), "page {page}");
+    }
 }
 
 /// The tests of a field in their order, each met by a field that would also meet the later ones.
@@ -1008,12 +1037,12 @@ fn cues_to_be_written() {
 }
 
 /// What the resolver gives, with the entries, in memory that is just long enough and holds 7 throughout before.
-fn resolved(book: &[u8], text: &[u8], cues: usize) -> ((u32, u32), Vec<u32>) {
+fn resolved(page: u32, book: &[u8], text: &[u8], cues: usize) -> ((u32, u32), Vec<u32>) {
     let mut copy = vec![7; text.len()];
     let (mut phrase, mut scratch, mut entries) = ([7; 1024], [7; 1281], vec![7; 3 * cues]);
-    let answer = resolve(book, text, &mut copy, &mut phrase, &mut scratch, &mut entries);
+    let answer = resolve(page, book, text, &mut copy, &mut phrase, &mut scratch, &mut entries);
     if [0, 12].contains(&answer.0) {
-        assert_eq!(copy, text.iter().map(|&letter| fold(letter)).collect::<Vec<u8>>());
+        assert_eq!(copy, text.iter().map(|&letter| folding_rule(page).unwrap()(letter)).collect::<Vec<u8>>());
         assert_eq!((phrase, scratch), ([0; 1024], [0; 1281]));
     } else {
         assert_eq!((copy, phrase, scratch), (vec![7; text.len()], [7; 1024], [7; 1281]));
@@ -1023,8 +1052,10 @@ fn resolved(book: &[u8], text: &[u8], cues: usize) -> ((u32, u32), Vec<u32>) {
 
 #[test]
 fn starred_resolving() {
-    assert_eq!(resolved(BOOK, b"la\nla", 1), ((0, 1), vec![3, 2, 1]));
-    assert_eq!(resolved(BOOK, b"la", 1), ((12, 0), vec![7, 7, 7]));
+    for page in [1, 15] {
+        assert_eq!(resolved(page, BOOK, b"la\nla", 1), ((0, 1), vec![3, 2, 1]));
+        assert_eq!(resolved(page, BOOK, b"la", 1), ((12, 0), vec![7, 7, 7]));
+    }
 }
 
 /// Document 02 (i).
@@ -1045,20 +1076,39 @@ fn folded_and_overlapping_occurrences() {
     let (_, first) = write_cue(&mut book, b"\xc9L\xe9", 2, b"");
     let (_, second) = write_cue(&mut book[first as usize..], b"\n", 2, b"the second line's end");
     let book = &book[..(first + second) as usize];
-    assert_eq!(resolved(book, b" \n\xe9l\xc9L\xe9\n", 2), ((0, 2), vec![4, 2, 3, 7, 2, 6]));
-    assert_eq!(resolved(book, b" \n\xe9l\xc9L\xe9", 2), ((12, 1), vec![4, 2, 3, 7, 7, 7]));
-    assert_eq!(resolved(book, b" \n\xe9l\xc9L\xe9", 1), ((11, 0), vec![7, 7, 7]));
-    assert_eq!(resolved(&[], b"", 0), ((0, 0), vec![]));
+    for page in [1, 15] {
+        assert_eq!(resolved(page, book, b" \n\xe9l\xc9L\xe9\n", 2), ((0, 2), vec![4, 2, 3, 7, 2, 6]));
+        assert_eq!(resolved(page, book, b" \n\xe9l\xc9L\xe9", 2), ((12, 1), vec![4, 2, 3, 7, 7, 7]));
+        assert_eq!(resolved(page, book, b" \n\xe9l\xc9L\xe9", 1), ((11, 0), vec![7, 7, 7]));
+        assert_eq!(resolved(page, &[], b"", 0), ((0, 0), vec![]));
+    }
 }
 
+/// Document 02 (iv): the letters of a pair are one letter on page 15 and two on page 1.
+#[test]
+fn resolving_by_a_page() {
+    let mut book = [0; 1000];
+    let (_, length) = write_cue(&mut book, b"c\xbcur", 2, b"");
+    let book = &book[..length as usize];
+    assert_eq!(resolved(15, book, b"C\xbdUR\nc\xbcur", 1), ((0, 1), vec![5, 2, 1]));
+    assert_eq!(resolved(1, book, b"C\xbdUR\nc\xbcur", 1), ((12, 0), vec![7, 7, 7]));
+    assert_eq!(resolved(2, book, b"C\xbdUR\nc\xbcur", 1), ((14, 0), vec![7, 7, 7]));
+}
+
+/// The tests in their order, each met by a call that would also meet the later ones; 14 comes after 5 and before 6.
 #[test]
 fn resolving_limits() {
     let text = [b'a'; 32_769];
     let (mut copy, mut phrase, mut scratch) = ([7; 32_769], [7; 1024], [7; 1281]);
-    let mut refusal = |n, copied, m, tables| resolve(b"\x02", &text[..n], &mut copy[..copied], &mut phrase[..m], &mut scratch[..tables], &mut []);
-    assert_eq!(refusal(32_769, 0, 0, 0), (4, 0));
-    assert_eq!(refusal(32_768, 0, 0, 1280), (5, 0));
-    assert_eq!(refusal(32_768, 32_767, 1024, 1281), (6, 0));
-    assert_eq!(refusal(32_768, 32_768, 1023, 1281), (6, 0));
-    assert_eq!(refusal(32_768, 32_768, 1024, 1281), (7, 0));
+    let mut refusal =
+        |page, n, copied, m, tables| resolve(page, b"\x02", &text[..n], &mut copy[..copied], &mut phrase[..m], &mut scratch[..tables], &mut []);
+    assert_eq!(refusal(0, 32_769, 0, 0, 0), (4, 0));
+    assert_eq!(refusal(0, 32_768, 0, 0, 1280), (5, 0));
+    assert_eq!(refusal(0, 32_768, 0, 0, 1281), (14, 0));
+    assert_eq!(refusal(0, 32_768, 32_768, 1024, 1281), (14, 0));
+    for page in [1, 15] {
+        assert_eq!(refusal(page, 32_768, 32_767, 1024, 1281), (6, 0));
+        assert_eq!(refusal(page, 32_768, 32_768, 1023, 1281), (6, 0));
+        assert_eq!(refusal(page, 32_768, 32_768, 1024, 1281), (7, 0));
+    }
 }

@@ -11,6 +11,7 @@ mod find;
 mod fold;
 mod late_cuts;
 mod lent;
+pub mod pages;
 pub mod programs;
 mod resolver;
 pub mod verses;
@@ -19,7 +20,7 @@ pub mod xml;
 
 pub use cue_book::{compare_book, compare_cue, compare_field, compare_write};
 pub use find::{compare, compare_moves, needed, METHODS};
-pub use fold::compare_fold;
+pub use fold::{compare_fold, compare_letter};
 pub use late_cuts::{compare_relists, Cut};
 pub use resolver::{compare_resolve, Lengths};
 pub use words::Random;

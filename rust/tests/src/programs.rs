@@ -1,4 +1,4 @@
-//! The example programs, built for a test that runs them as processes.
+//! Programs that tests run as processes: those that the proof run leaves, and the example programs, which are built for the test.
 
 use std::env;
 use std::path::{Path, PathBuf};
@@ -12,6 +12,13 @@ pub fn repository() -> PathBuf {
 /// The library's archive.
 pub fn archive() -> PathBuf {
     env::var_os("LIBRETTO_LIB_DIR").map_or_else(|| repository().join("target/staticlib"), PathBuf::from).join("liblibretto.a")
+}
+
+/// A program that the proof run leaves in the repository's build folder, or the one that this variable names.
+pub fn proved_program(name: &str, variable: &str) -> PathBuf {
+    let path = env::var_os(variable).map_or_else(|| repository().join("target/bin").join(name), PathBuf::from);
+    assert!(path.is_file(), "the program {name} does not exist at {}: build it first", path.display());
+    path
 }
 
 /// Compiles a C example against the header and the archive, with every warning an error, and gives the program's path in this folder.

@@ -50,10 +50,12 @@ struct Held {
 }
 
 impl Held {
-    /// Dirt by the seed. Past n the copy goes on with the folded text from its front, so that a search past n would find occurrences.
-    fn new(text: &[u8], lengths: Lengths, seed: u64) -> Held {
+    /// Dirt by the seed. Past n the copy goes on with the folded text from its front, so that a search past n would find occurrences. There is no
+    /// search by an unknown page, and the text as it stands is dirt enough.
+    fn new(page: u32, text: &[u8], lengths: Lengths, seed: u64) -> Held {
         let mut copy = dirt(lengths.copy, seed).to_vec();
-        let folded = text.iter().map(|&letter| reference::fold(letter));
+        let rule = reference::folding_rule(page).unwrap_or(|letter| letter);
+        let folded = text.iter().map(|&letter| rule(letter));
         for (byte, letter) in copy.iter_mut().skip(text.len()).zip(folded.cycle()) {
             *byte = letter;
         }
@@ -72,13 +74,13 @@ impl Memory {
     }
 
     /// Calls the library and the reference.
-    fn call(&mut self, book: &[u8], text: &[u8]) -> (RawAnswer, (u32, u32)) {
+    fn call(&mut self, page: u32, book: &[u8], text: &[u8]) -> (RawAnswer, (u32, u32)) {
         let (copy, reference_copy) = self.copy.lend();
         let (phrase, reference_phrase) = self.phrase.lend();
         let (scratch, reference_scratch) = self.scratch.lend();
         let (entries, reference_entries) = self.entries.lend();
-        let raw = resolve_raw(self.book.entries(), self.text.entries(), &mut ResolverMemory { copy, phrase, scratch, entries });
-        (raw, reference::resolve(book, text, reference_copy, reference_phrase, reference_scratch, reference_entries))
+        let raw = resolve_raw(page, self.book.entries(), self.text.entries(), &mut ResolverMemory { copy, phrase, scratch, entries });
+        (raw, reference::resolve(page, book, text, reference_copy, reference_phrase, reference_scratch, reference_entries))
     }
 
     /// What is wrong with the memory, told without the reference.
@@ -98,11 +100,11 @@ impl Memory {
 /// Calls the library and the reference with equal arguments and compares the answers and all of copy, phrase buffer, scratch and entries with guards on
 /// both sides. All four are dirty before the call, by the seed. In memory the text is followed by itself and the book by one more cue. Any difference
 /// ends the test with the whole case.
-pub fn compare_resolve(book: &[u8], text: &[u8], lengths: Lengths, seed: u64) -> RawAnswer {
-    let held = Held::new(text, lengths, seed);
+pub fn compare_resolve(page: u32, book: &[u8], text: &[u8], lengths: Lengths, seed: u64) -> RawAnswer {
+    let held = Held::new(page, text, lengths, seed);
     MEMORY.with_borrow_mut(|memory| {
         memory.prepare(book, text, &held);
-        let (raw, reference) = memory.call(book, text);
+        let (raw, reference) = memory.call(page, book, text);
         let library = (raw.refusal, raw.number);
 
         let mut faults = Faults::default();
@@ -115,7 +117,7 @@ pub fn compare_resolve(book: &[u8], text: &[u8], lengths: Lengths, seed: u64) ->
         memory.kept_and_cleared(raw, &held, &mut faults);
         faults.judge(|| {
             format!(
-                "book of {} bytes, text of {} bytes, {lengths:?}, seed {seed}\nbook: \"{}\"\ntext: \"{}\"\n\
+                "page {page}, book of {} bytes, text of {} bytes, {lengths:?}, seed {seed}\nbook: \"{}\"\ntext: \"{}\"\n\
                  (refusal, number): library {library:?}, reference {reference:?}",
                 book.len(),
                 text.len(),

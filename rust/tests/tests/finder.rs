@@ -1,26 +1,22 @@
 //! The finder program as a process: what it prints is compared with the reference. Its path is LIBRETTO_FINDER, or else that of the repository's build.
 
+use libretto_tests::programs::proved_program;
 use libretto_tests::Random;
-use std::env;
 use std::fs::{self, File};
 use std::io::{ErrorKind, Write};
-use std::path::{Path, PathBuf};
+use std::path::Path;
 use std::process::{Command, Output, Stdio};
 use std::thread;
 use std::time::Duration;
 
-fn program() -> PathBuf {
-    let path = match env::var_os("LIBRETTO_FINDER") {
-        Some(path) => PathBuf::from(path),
-        None => Path::new(env!("CARGO_MANIFEST_DIR")).join("../../target/bin/finder"),
-    };
-    assert!(path.is_file(), "the finder program does not exist at {}: build it first", path.display());
-    path
-}
-
 /// Runs the finder with this standard input.
 fn run(input: Stdio, feed: impl FnOnce(Option<std::process::ChildStdin>) + Send) -> Output {
-    let mut child = Command::new(program()).stdin(input).stdout(Stdio::piped()).stderr(Stdio::piped()).spawn().expect("the finder starts");
+    let mut child = Command::new(proved_program("finder", "LIBRETTO_FINDER"))
+        .stdin(input)
+        .stdout(Stdio::piped())
+        .stderr(Stdio::piped())
+        .spawn()
+        .expect("the finder starts");
     let stdin = child.stdin.take();
     // Fed from a thread of its own, so that neither side waits for the other.
     thread::scope(|scope| {

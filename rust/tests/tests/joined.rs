@@ -1,7 +1,7 @@
 //! Acts joined (document 02, (ix)): texts cut in two at every place. The places in the whole are those of the first part, those that cross the seam, and
 //! those of the second part moved up, by whatever methods; and the folded whole is the folded parts joined.
 
-use libretto::{find, fold_text, Method, Refusal};
+use libretto::{find, fold_text, Method, Page, Refusal};
 use libretto_tests::words::{all_words, fibonacci, periodic};
 use libretto_tests::Random;
 
@@ -114,14 +114,16 @@ fn folded_parts_joined() {
     for _ in 0..200 {
         let length = random.between(0, 200);
         let text = random.word(256, length);
-        let folded = |part: &[u8]| {
-            let mut target = vec![b'?'; part.len()];
-            assert_eq!(fold_text(part, &mut target), part.len());
-            target
-        };
-        for cut in 0..=text.len() {
-            let (front, back) = text.split_at(cut);
-            assert!(folded(&text) == [folded(front), folded(back)].concat(), "text \"{}\" cut at {cut}", text.escape_ascii());
+        for page in Page::ALL {
+            let folded = |part: &[u8]| {
+                let mut target = vec![b'?'; part.len()];
+                assert_eq!(fold_text(page, part, &mut target), part.len());
+                target
+            };
+            for cut in 0..=text.len() {
+                let (front, back) = text.split_at(cut);
+                assert!(folded(&text) == [folded(front), folded(back)].concat(), "{page:?}, text \"{}\" cut at {cut}", text.escape_ascii());
+            }
         }
     }
 }

@@ -1,8 +1,9 @@
 //! The refusals of the resolver, their order, and what a call leaves that was refused. That all but 12 leave everything as before is tested in every
 //! compared call, without the reference.
 
-use libretto::{resolve, RawAnswer, Refusal, ResolveError, ResolverMemory};
+use libretto::{resolve, resolve_raw, Page, RawAnswer, Refusal, ResolveError, ResolverMemory};
 use libretto_tests::books::{book, Cue, MORE};
+use libretto_tests::pages::{unknown_pages, PAGES};
 use libretto_tests::{compare_resolve, report, Lengths, Random};
 
 /// A book with the answer of its reading, and the first cue that is missing in a text of letters a.
@@ -36,12 +37,14 @@ fn cases() -> Vec<Case> {
     ]
 }
 
-/// The answer by the words of document 01.
-fn due(case: &Case, n: usize, lengths: Lengths) -> (u32, u32) {
+/// The answer by the words of document 01, and of document 02, (iv), which puts the page between scratch and copy.
+fn due(page: u32, case: &Case, n: usize, lengths: Lengths) -> (u32, u32) {
     if n > 32_768 {
         (Refusal::LongText.number(), 0)
     } else if lengths.scratch < 1281 {
         (Refusal::ShortScratch.number(), 0)
+    } else if !PAGES.contains(&page) {
+        (Refusal::UnknownPage.number(), 0)
     } else if lengths.copy < n || lengths.phrase < 1024 {
         (Refusal::ShortBuffer.number(), 0)
     } else if case.read.0 != 0 {
@@ -55,10 +58,12 @@ fn due(case: &Case, n: usize, lengths: Lengths) -> (u32, u32) {
     }
 }
 
+/// A page of the two in turn, and an unknown one, meet every limit beside every other.
 #[test]
 fn every_limit_with_every_other() {
     let mut random = Random::new(61);
-    let mut met = [0; 14];
+    let mut met = [0; 15];
+    let unknown = unknown_pages();
     let text = vec![b'a'; 40_000];
     for case in cases() {
         for n in [0usize, 1, 7, 32_767, 32_768, 32_769, 40_000] {
@@ -67,17 +72,70 @@ fn every_limit_with_every_other() {
                     for scratch in [0, 1280, 1281, 1282] {
                         for entries in [0, 3, 5, 6, 7] {
                             let lengths = Lengths { copy, phrase, scratch, entries };
-                            let RawAnswer { refusal, number } = compare_resolve(&case.book, &text[..n], lengths, random.next());
-                            assert_eq!((refusal, number), due(&case, n, lengths), "{:?} in {n} letters, {lengths:?}", case.read);
-                            met[refusal as usize] += 1;
+                            for page in [PAGES[random.below(2)], unknown[random.below(unknown.len())]] {
+                                let RawAnswer { refusal, number } = compare_resolve(page, &case.book, &text[..n], lengths, random.next());
+                                let due = due(page, &case, n, lengths);
+                                assert_eq!((refusal, number), due, "page {page}, {:?} in {n} letters, {lengths:?}", case.read);
+                                met[refusal as usize] += 1;
+                            }
                         }
                     }
                 }
             }
         }
     }
-    assert!([0, 4, 5, 6, 7, 8, 9, 10, 11, 12].iter().all(|&refusal| met[refusal] > 30), "the calls met too little: {met:?}");
-    report("every_limit_with_every_other", 9 * 7 * 4 * 4 * 4 * 5);
+    assert!([0, 4, 5, 6, 7, 8, 9, 10, 11, 12, 14].iter().all(|&refusal| met[refusal] > 30), "the calls met too little: {met:?}");
+    report("every_limit_with_every_other", 2 * 9 * 7 * 4 * 4 * 4 * 5);
+}
+
+/// Every unknown page in calls that meet one other refusal besides: 4 and 5 come before 14, and all others after it. Each of these calls meets its other
+/// refusal by both pages that there are.
+#[test]
+fn unknown_pages_between_scratch_and_copy() {
+    let mut random = Random::new(65);
+    let text = vec![b'a'; 32_769];
+    let enough = |n| Lengths::enough(n, 2);
+    let good = ((0, 2), None);
+    let calls = [
+        (good, 32_769, enough(32_769), 4),
+        (good, 7, Lengths { scratch: 1280, ..enough(7) }, 5),
+        (good, 7, Lengths { copy: 6, ..enough(7) }, 6),
+        (good, 7, Lengths { phrase: 1023, ..enough(7) }, 6),
+        (((7, 1), Some(0)), 7, enough(7), 7),
+        (((8, 1), Some(0)), 7, enough(7), 8),
+        (((8, 0), Some(0)), 7, enough(7), 8),
+        (((9, 1), Some(0)), 7, enough(7), 9),
+        (((10, 999), Some(0)), 7, enough(7), 10),
+        (good, 7, Lengths { entries: 5, ..enough(7) }, 11),
+        (((0, 2), Some(0)), 7, enough(7), 12),
+        (((0, 2), Some(1)), 7, enough(7), 12),
+        (good, 7, enough(7), 0),
+    ];
+    for (kind, n, lengths, other) in calls {
+        let case = cases().into_iter().find(|case| (case.read, case.missing) == kind).expect("there is a book of this kind");
+        for page in PAGES {
+            let refusal = compare_resolve(page, &case.book, &text[..n], lengths, random.next()).refusal;
+            assert_eq!(refusal, other, "page {page}, {kind:?} in {n} letters, {lengths:?}");
+        }
+        let due = RawAnswer { refusal: if [4, 5].contains(&other) { other } else { 14 }, number: 0 };
+        for page in unknown_pages() {
+            let answer = compare_resolve(page, &case.book, &text[..n], lengths, random.next());
+            assert_eq!(answer, due, "page {page}, which meets {other} too, {kind:?} in {n} letters, {lengths:?}");
+        }
+    }
+    report("unknown_pages_between_scratch_and_copy", 13 * (2 + 305));
+}
+
+/// What a call by an unknown page leaves, without the reference.
+#[test]
+fn unknown_pages_write_nothing() {
+    for page in unknown_pages() {
+        let (mut copy, mut phrase, mut scratch, mut entries) = ([7; 20], [7; 1030], [7; 1300], [7; 17]);
+        let mut memory = ResolverMemory { copy: &mut copy, phrase: &mut phrase, scratch: &mut scratch, entries: &mut entries };
+        let answer = resolve_raw(page, MORE, b"tralala", &mut memory);
+        assert_eq!(answer, RawAnswer { refusal: 14, number: 0 }, "page {page}");
+        assert_eq!((copy, phrase, scratch, entries), ([7; 20], [7; 1030], [7; 1300], [7; 17]), "page {page}");
+    }
 }
 
 #[test]
@@ -87,9 +145,10 @@ fn every_number_of_entries() {
         let book = MORE.repeat(count);
         for entries in (0..3 * count + 3).rev().take(20).chain([0, count, 2 * count]) {
             let lengths = Lengths { entries, ..Lengths::enough(4, count) };
-            let answer = compare_resolve(&book, b"lala", lengths, random.next());
+            let page = PAGES[entries % 2];
+            let answer = compare_resolve(page, &book, b"lala", lengths, random.next());
             let expected = if entries < 3 * count { (11, 0) } else { (0, count as u32) };
-            assert_eq!((answer.refusal, answer.number), expected, "{count} cues, {entries} entries");
+            assert_eq!((answer.refusal, answer.number), expected, "page {page}, {count} cues, {entries} entries");
         }
     }
     report("every_number_of_entries", 6 + 9 + 12 + 3 * 23);
@@ -100,19 +159,21 @@ fn every_number_of_entries() {
 fn missing_occurrences() {
     let text = b"Tra\nLa la\nLALA";
     let cues = [(&b"LA"[..], 4, [12, 3, 3]), (b"\nla", 1, [3, 1, 4]), (b"tra", 1, [0, 1, 1]), (b"a l", 1, [5, 2, 2]), (b"la", 3, [10, 3, 1])];
-    for missing in 0..cues.len() {
-        for rest in missing + 1..=cues.len() {
+    let ends: Vec<(usize, usize)> = (0..cues.len()).flat_map(|missing| (missing + 1..=cues.len()).map(move |rest| (missing, rest))).collect();
+    for page in Page::ALL {
+        for &(missing, rest) in &ends {
             let mut changed: Vec<Cue> = cues[..rest].iter().map(|&(phrase, ordinal, _)| Cue::new(phrase, ordinal, b"")).collect();
             changed[missing].ordinal = 5;
             let (mut copy, mut phrase, mut scratch, mut entries) = ([7; 20], [7; 1030], [7; 1300], [7; 17]);
             let mut memory = ResolverMemory { copy: &mut copy, phrase: &mut phrase, scratch: &mut scratch, entries: &mut entries };
-            let answer = resolve(&book(&changed), text, &mut memory);
-            assert_eq!(answer, Err(ResolveError { refusal: Refusal::NoOccurrence, cue: Some(missing) }));
+            let answer = resolve(page, &book(&changed), text, &mut memory);
+            let told = format!("{page:?}, cue {missing} of {rest} missing");
+            assert_eq!(answer, Err(ResolveError { refusal: Refusal::NoOccurrence, cue: Some(missing) }), "{told}");
             let written: Vec<u32> = cues[..missing].iter().flat_map(|cue| cue.2).collect();
-            assert_eq!(entries[..3 * missing], written, "the earlier cues' entries, {missing} of {rest}");
-            assert_eq!(entries[3 * missing..], [7; 17][3 * missing..], "the entries from the missing cue on, {missing} of {rest}");
-            assert_eq!(copy, *b"tra\nla la\nlala\x07\x07\x07\x07\x07\x07");
-            assert_eq!((phrase, scratch), ([0; 1030], [0; 1300]));
+            assert_eq!(entries[..3 * missing], written, "{told}: the earlier cues' entries");
+            assert_eq!(entries[3 * missing..], [7; 17][3 * missing..], "{told}: the entries from the missing cue on");
+            assert_eq!(copy, *b"tra\nla la\nlala\x07\x07\x07\x07\x07\x07", "{told}");
+            assert_eq!((phrase, scratch), ([0; 1030], [0; 1300]), "{told}");
         }
     }
 }
@@ -120,11 +181,13 @@ fn missing_occurrences() {
 /// An empty vector's slice points to no memory at all.
 #[test]
 fn slices_without_memory() {
-    let (mut copy, mut phrase, mut scratch, mut entries) = (vec![], vec![7; 1024], vec![7; 1281], vec![]);
-    let mut memory = ResolverMemory { copy: &mut copy, phrase: &mut phrase, scratch: &mut scratch, entries: &mut entries };
-    assert_eq!(resolve(&Vec::new(), &Vec::new(), &mut memory), Ok(0));
-    assert_eq!((&*memory.phrase, &*memory.scratch), (&[0; 1024][..], &[0; 1281][..]));
-    assert_eq!(resolve(MORE, &Vec::new(), &mut memory), Err(ResolveError { refusal: Refusal::ShortEntries, cue: None }));
-    memory.scratch = &mut [];
-    assert_eq!(resolve(&Vec::new(), &Vec::new(), &mut memory), Err(ResolveError { refusal: Refusal::ShortScratch, cue: None }));
+    for page in Page::ALL {
+        let (mut copy, mut phrase, mut scratch, mut entries) = (vec![], vec![7; 1024], vec![7; 1281], vec![]);
+        let mut memory = ResolverMemory { copy: &mut copy, phrase: &mut phrase, scratch: &mut scratch, entries: &mut entries };
+        assert_eq!(resolve(page, &Vec::new(), &Vec::new(), &mut memory), Ok(0));
+        assert_eq!((&*memory.phrase, &*memory.scratch), (&[0; 1024][..], &[0; 1281][..]));
+        assert_eq!(resolve(page, MORE, &Vec::new(), &mut memory), Err(ResolveError { refusal: Refusal::ShortEntries, cue: None }));
+        memory.scratch = &mut [];
+        assert_eq!(resolve(page, &Vec::new(), &Vec::new(), &mut memory), Err(ResolveError { refusal: Refusal::ShortScratch, cue: None }));
+    }
 }

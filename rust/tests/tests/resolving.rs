@@ -1,8 +1,9 @@
-//! The resolver over random texts, refrains, line ends, every letter, and the longest of everything. What a call leaves in its memory is compared in
-//! every call.
+//! The resolver over random texts, refrains, line ends, every letter, French and Finnish texts, texts folded beforehand, and the longest of everything.
+//! What a call leaves in its memory is compared in every call. Most tests go by one page and the other in turn.
 
-use libretto::{resolve_all, CuePlace, RawAnswer};
+use libretto::{fold_text, resolve_all, CuePlace, Page, RawAnswer};
 use libretto_tests::books::{book, Cue, CUES, PHRASE};
+use libretto_tests::pages::{letters, PAGES};
 use libretto_tests::verses::{in_any_case, missing, standing, total, verse, word, ALPHABETS};
 use libretto_tests::words::{fibonacci, periodic};
 use libretto_tests::{compare_resolve, report, Lengths, Random};
@@ -11,46 +12,57 @@ use libretto_tests::{compare_resolve, report, Lengths, Random};
 const TEXT: usize = 32_768;
 
 /// Resolves the cues in memory that is just long enough or somewhat longer.
-fn resolve(cues: &[Cue], text: &[u8], random: &mut Random) -> RawAnswer {
+fn resolve(page: u32, cues: &[Cue], text: &[u8], random: &mut Random) -> RawAnswer {
     let lengths = Lengths::enough(text.len(), cues.len()).or_more(random);
-    compare_resolve(&book(cues), text, lengths, random.next())
+    compare_resolve(page, &book(cues), text, lengths, random.next())
 }
 
 /// Resolves cues that all stand in the text.
-fn resolve_standing(cues: &[Cue], text: &[u8], random: &mut Random) {
-    let answer = resolve(cues, text, random);
-    assert_eq!(answer, RawAnswer { refusal: 0, number: cues.len() as u32 }, "{cues:?} in \"{}\"", text.escape_ascii());
+fn resolve_standing(page: u32, cues: &[Cue], text: &[u8], random: &mut Random) {
+    let answer = resolve(page, cues, text, random);
+    assert_eq!(answer, RawAnswer { refusal: 0, number: cues.len() as u32 }, "page {page}, {cues:?} in \"{}\"", text.escape_ascii());
 }
 
 /// Resolves cues of which this one is the first that does not stand in the text.
-fn resolve_missing(cues: &[Cue], missing: usize, text: &[u8], random: &mut Random) {
-    let answer = resolve(cues, text, random);
-    assert_eq!(answer, RawAnswer { refusal: 12, number: missing as u32 }, "{cues:?} in \"{}\"", text.escape_ascii());
+fn resolve_missing(page: u32, cues: &[Cue], missing: usize, text: &[u8], random: &mut Random) {
+    let answer = resolve(page, cues, text, random);
+    assert_eq!(answer, RawAnswer { refusal: 12, number: missing as u32 }, "page {page}, {cues:?} in \"{}\"", text.escape_ascii());
 }
 
-/// A few cues that stand in the text, and in every second round one that does not, among them or as the last.
-fn some_cues(alphabet: &[u8], text: &[u8], round: usize, random: &mut Random) {
+/// A few cues that stand in the text, and in every second round one that does not, among them or as the last; and which one that is.
+fn some_cues(page: u32, alphabet: &[u8], text: &[u8], round: usize, random: &mut Random) -> (Vec<Cue>, Option<usize>) {
     let count = if text.is_empty() { 0 } else { random.below(7) };
     let longest = [2, 6, 40][random.below(3)];
-    let mut cues: Vec<Cue> = (0..count).map(|_| standing(text, longest, random)).collect();
-    if round % 2 == 1 {
+    let mut cues: Vec<Cue> = (0..count).map(|_| standing(page, text, longest, random)).collect();
+    let missing = (round % 2 == 1).then(|| {
         let place = random.between(0, count);
         cues.truncate(if random.below(2) == 0 { place } else { count });
-        cues.insert(place, missing(alphabet, text, random));
-        resolve_missing(&cues, place, text, random);
-    } else {
-        resolve_standing(&cues, text, random);
+        cues.insert(place, missing(page, alphabet, text, random));
+        place
+    });
+    (cues, missing)
+}
+
+fn resolve_some(page: u32, alphabet: &[u8], text: &[u8], round: usize, random: &mut Random) {
+    match some_cues(page, alphabet, text, round, random) {
+        (cues, Some(place)) => resolve_missing(page, &cues, place, text, random),
+        (cues, None) => resolve_standing(page, &cues, text, random),
     }
+}
+
+/// The page of a round. Both have each alphabet, each kind of length, and cues that do not stand in the text.
+fn page_of(round: usize) -> u32 {
+    PAGES[round / 2 % 2]
 }
 
 #[test]
 fn random_texts() {
     let mut random = Random::new(51);
     for round in 0..60_000 {
-        let alphabet = ALPHABETS[round % 5];
+        let alphabet = ALPHABETS[round % 7];
         let length = [random.below(12), random.below(80), random.below(400)][round % 3];
         let text = word(alphabet, length, &mut random);
-        some_cues(alphabet, &text, round, &mut random);
+        resolve_some(page_of(round), alphabet, &text, round, &mut random);
     }
     report("random_texts", 60_000);
 }
@@ -62,7 +74,7 @@ fn random_bytes() {
     for round in 0..20_000 {
         let length = random.below(300);
         let text = word(&every_byte, length, &mut random);
-        some_cues(&every_byte, &text, round, &mut random);
+        resolve_some(page_of(round), &every_byte, &text, round, &mut random);
     }
     report("random_bytes", 20_000);
 }
@@ -71,41 +83,42 @@ fn random_bytes() {
 fn refrains() {
     let mut random = Random::new(53);
     for round in 0..60_000 {
-        let alphabet = ALPHABETS[round % 5];
+        let (page, alphabet) = (page_of(round), ALPHABETS[round % 7]);
         let length = [random.below(30), random.below(150), random.below(900)][round % 3];
-        let text = verse(alphabet, length, &mut random);
-        some_cues(alphabet, &text, round, &mut random);
+        let text = verse(page, alphabet, length, &mut random);
+        resolve_some(page, alphabet, &text, round, &mut random);
     }
     report("refrains", 60_000);
 }
 
 /// Every occurrence of a phrase as a cue of its own, up to the most cues; then the one after the last.
-fn every_occurrence(phrase: &[u8], text: &[u8], random: &mut Random) {
-    let cue = |ordinal: usize| Cue { phrase: in_any_case(phrase, &mut Random::new(ordinal as u64)), ordinal: ordinal as u16, title: Vec::new() };
-    let total = total(phrase, text);
+fn every_occurrence(page: u32, phrase: &[u8], text: &[u8], random: &mut Random) {
+    let in_a_case = |ordinal: usize| in_any_case(page, phrase, &mut Random::new(ordinal as u64));
+    let cue = |ordinal: usize| Cue { phrase: in_a_case(ordinal), ordinal: ordinal as u16, title: Vec::new() };
+    let total = total(page, phrase, text);
     let mut cues: Vec<Cue> = (1..=total.min(CUES)).map(cue).collect();
-    resolve_standing(&cues, text, random);
+    resolve_standing(page, &cues, text, random);
     cues.truncate(CUES - 1);
     cues.push(cue(total + 1));
-    resolve_missing(&cues, cues.len() - 1, text, random);
+    resolve_missing(page, &cues, cues.len() - 1, text, random);
 }
 
 #[test]
 fn overlapping_refrains() {
     let mut random = Random::new(54);
+    let words: [&[u8]; 6] = [b"a", b"aA\n", b"\xe9a\xc9", b"aab", b"la la\r\n", b"\xbd\xff\xbc\xbe"];
     for n in [1, 2, 7, 30, 144, 500, 1100] {
-        for text in [periodic(b"a", n), periodic(b"aA\n", n), periodic(b"\xe9a\xc9", n), periodic(b"aab", n), periodic(b"la la\r\n", n), fibonacci(n)]
-        {
-            let text = in_any_case(&text, &mut random);
+        for text in words.map(|word| periodic(word, n)).into_iter().chain([fibonacci(n)]) {
+            let text = in_any_case(15, &text, &mut random);
             for m in [1, 2, 3, 5, 8, 13, 60] {
                 if m <= n {
                     let start = random.between(0, n - m);
-                    every_occurrence(&text[start..start + m], &text, &mut random);
+                    every_occurrence(PAGES[m % 2], &text[start..start + m], &text, &mut random);
                 }
             }
         }
     }
-    report("overlapping_refrains", 2 * 6 * 34);
+    report("overlapping_refrains", 2 * 7 * 34);
 }
 
 /// Every text of up to eight letters and bytes of line ends, with every occurrence of every phrase of one or two in one book.
@@ -116,18 +129,19 @@ fn every_short_text() {
     for length in 0..=8 {
         for letters in 0..3usize.pow(length) {
             let text: Vec<u8> = (0..length).map(|k| b"a\n\r"[letters / 3usize.pow(k) % 3]).collect();
-            let occurrences = |phrase| (1..=total(phrase, &text)).map(move |ordinal| Cue::new(phrase, ordinal as u16, b""));
+            let page = PAGES[letters % 2];
+            let occurrences = |phrase| (1..=total(page, phrase, &text)).map(move |ordinal| Cue::new(phrase, ordinal as u16, b""));
             let cues: Vec<Cue> = phrases.iter().copied().flat_map(occurrences).collect();
-            resolve_standing(&cues, &text, &mut random);
+            resolve_standing(page, &cues, &text, &mut random);
             for phrase in phrases {
-                resolve_missing(&[Cue::new(phrase, total(phrase, &text) as u16 + 1, b"")], 0, &text, &mut random);
+                resolve_missing(page, &[Cue::new(phrase, total(page, phrase, &text) as u16 + 1, b"")], 0, &text, &mut random);
             }
         }
     }
     report("every_short_text", 9841 * 13);
 }
 
-/// All bytes in one text: which of them are one letter.
+/// All bytes in one text: which of them are one letter, by each page.
 #[test]
 fn every_letter_with_every_other() {
     let mut random = Random::new(56);
@@ -135,20 +149,110 @@ fn every_letter_with_every_other() {
     for k in (1..256).rev() {
         text.swap(k, random.between(0, k));
     }
-    for letter in 0..=255 {
-        let folded_alike = text.iter().filter(|&&other| reference::fold(other) == reference::fold(letter)).count();
-        let cues: Vec<Cue> = (1..=folded_alike + 1).map(|ordinal| Cue::new(&[letter], ordinal as u16, b"")).collect();
-        resolve_standing(&cues[..folded_alike], &text, &mut random);
-        resolve_missing(&cues, folded_alike, &text, &mut random);
+    for page in PAGES {
+        let rule = reference::folding_rule(page).expect("the reference has the page");
+        for letter in 0..=255 {
+            let folded_alike = text.iter().filter(|&&other| rule(other) == rule(letter)).count();
+            let cues: Vec<Cue> = (1..=folded_alike + 1).map(|ordinal| Cue::new(&[letter], ordinal as u16, b"")).collect();
+            resolve_standing(page, &cues[..folded_alike], &text, &mut random);
+            resolve_missing(page, &cues, folded_alike, &text, &mut random);
+        }
     }
-    report("every_letter_with_every_other", 512);
+    report("every_letter_with_every_other", 2 * 512);
+}
+
+/// Letter by letter the small one, as Unicode has it. On page 1 the bytes of these four are signs without case, so there they stay.
+fn small(page: u32, text: &str) -> Vec<char> {
+    let stays = |sign| page == 1 && "ŠŽŒŸ".contains(sign);
+    let small = |sign: char| sign.to_lowercase().next().expect("a letter has a small one or is its own");
+    text.chars().map(|sign| if stays(sign) { sign } else { small(sign) }).collect()
+}
+
+/// Where the phrase stands in a text that is kept in ISO 8859-15 and read by this page. A letter is one byte, so a place is a letter's index; lines end
+/// at byte 10.
+fn places_of(page: u32, phrase: &str, text: &str) -> Vec<CuePlace> {
+    let (phrase, text) = (small(page, phrase), small(page, text));
+    let stands = |&place: &usize| text[place..].starts_with(&phrase);
+    let told = |place: usize| {
+        let lines: Vec<&[char]> = text[..place].split(|&sign| sign == '\n').collect();
+        CuePlace { place: place as u32, line: lines.len() as u32, column: lines[lines.len() - 1].len() as u32 + 1 }
+    };
+    (0..text.len()).filter(stands).map(told).collect()
+}
+
+const FRENCH: &str = "ŒDIPE\nÔ sœur, mon cœur est las.\nLE CHŒUR\nSŒUR, TON CŒUR EST LAS.\nOn va à L'HAŸ, à l'Haÿ, là-bas,\n\
+                      les Vœux, les VŒUX d'été, d'Été.\n";
+const FINNISH: &str = "Šakaali ulvoo,\nŠAKAALI nukkuu, šakaali syö;\nDŽONKKI, džonkki keinuu, Džonkki,\npastišši, PASTIŠŠI,\n\
+                       yö on pitkä, YÖ ON PITKÄ.\n";
+
+/// Each phrase, with its total by page 15, and with its totals by page 1: as it is written here, in small letters, and in capital ones.
+#[test]
+fn french_and_finnish_texts() {
+    let cases = [
+        (FRENCH, "Œdipe", 1, [1, 0, 1]),
+        (FRENCH, "cœur", 2, [1, 1, 1]),
+        (FRENCH, "Chœur", 1, [0, 0, 1]),
+        (FRENCH, "sœur, ", 2, [1, 1, 1]),
+        (FRENCH, "l'Haÿ", 2, [1, 1, 1]),
+        (FRENCH, "Vœux", 2, [1, 1, 1]),
+        (FRENCH, "est las.", 2, [2, 2, 2]),
+        (FRENCH, "d'été", 2, [2, 2, 2]),
+        (FINNISH, "Šakaali", 3, [2, 1, 2]),
+        (FINNISH, "džonkki", 3, [2, 2, 1]),
+        (FINNISH, "pastišši", 2, [1, 1, 1]),
+        (FINNISH, "yö on pitkä", 2, [2, 2, 2]),
+    ];
+    let mut random = Random::new(63);
+    for (text, phrase, on_15, on_1) in cases {
+        for (form, on_1) in [phrase.to_string(), phrase.to_lowercase(), phrase.to_uppercase()].iter().zip(on_1) {
+            for (page, total) in [(15, on_15), (1, on_1)] {
+                let places = places_of(page, form, text);
+                assert_eq!(places.len(), total, "page {page}, \"{form}\": the total by Unicode");
+                let (text, form) = (letters(15, text), letters(15, form));
+                let cues: Vec<Cue> = (1..=total as u16 + 1).map(|ordinal| Cue::new(&form, ordinal, b"")).collect();
+                resolve_standing(page, &cues[..total], &text, &mut random);
+                resolve_missing(page, &cues, total, &text, &mut random);
+                let found = resolve_all(Page::from_number(page).expect("the page is known"), &book(&cues[..total]), &text);
+                assert_eq!(found, Ok(places), "page {page}, \"{}\"", form.escape_ascii());
+            }
+        }
+    }
+    report("french_and_finnish_texts", 12 * 3 * 2 * 2);
+}
+
+/// A text that was folded beforehand gives the same places, lines and columns, and the same refusal where a cue is missing.
+#[test]
+fn texts_folded_beforehand() {
+    let mut random = Random::new(64);
+    let mut changed = 0;
+    for round in 0..12_000 {
+        let (page, alphabet) = (Page::ALL[round / 2 % 2], ALPHABETS[round % 7]);
+        let length = [random.below(12), random.below(80), random.below(400)][round % 3];
+        let text = if round / 4 % 2 == 0 { verse(page.number(), alphabet, length, &mut random) } else { random.word(256, length) };
+        let (cues, _) = some_cues(page.number(), alphabet, &text, round, &mut random);
+        let mut folded = vec![b'?'; text.len()];
+        assert_eq!(fold_text(page, &text, &mut folded), text.len());
+        changed += usize::from(folded != text);
+
+        let answers = [&text, &folded].map(|text| resolve(page.number(), &cues, text, &mut random));
+        assert_eq!(answers[0], answers[1], "{page:?}, {cues:?} in \"{}\"", text.escape_ascii());
+        let places = [&text, &folded].map(|text| resolve_all(page, &book(&cues), text));
+        assert_eq!(places[0], places[1], "{page:?}, {cues:?} in \"{}\"", text.escape_ascii());
+    }
+    assert!(changed > 8000, "folding changed {changed} texts only");
+    report("texts_folded_beforehand", 2 * 12_000);
 }
 
 #[test]
 fn places_lines_and_columns() {
     let places = |text: &[u8], phrase: &[u8], ordinal| {
-        let found = resolve_all(&book(&[Cue::new(phrase, ordinal, b"")]), text);
-        found.expect("the cue stands in the text").iter().map(|&CuePlace { place, line, column }| (place, line, column)).next()
+        let by_page = |page| {
+            let found = resolve_all(page, &book(&[Cue::new(phrase, ordinal, b"")]), text);
+            found.expect("the cue stands in the text").iter().map(|&CuePlace { place, line, column }| (place, line, column)).next()
+        };
+        let [by_1, by_15] = Page::ALL.map(by_page);
+        assert_eq!(by_1, by_15, "\"{}\" in \"{}\" by the two pages", phrase.escape_ascii(), text.escape_ascii());
+        by_1
     };
     assert_eq!(places(b"la\nla", b"la", 2), Some((3, 2, 1)));
     assert_eq!(places(b"la\nla", b"\n", 1), Some((2, 1, 3)));
@@ -185,14 +289,15 @@ fn endings_at_every_distance() {
     for distance in 0..=600 {
         for ending in endings {
             let text = [b"b", &vec![b'a'; distance][..], ending, b"b", &vec![b'a'; distance % 200], ending, b"b"].concat();
+            let page = PAGES[distance % 2];
             let cue = |phrase: &[u8], ordinal| Cue::new(phrase, ordinal, b"");
             let mut cues: Vec<Cue> = (1..=3).map(|ordinal| cue(b"b", ordinal)).collect();
             for byte in [b"\n", b"\r"] {
-                cues.extend((1..=total(byte, &text)).map(|ordinal| cue(byte, ordinal as u16)));
+                cues.extend((1..=total(page, byte, &text)).map(|ordinal| cue(byte, ordinal as u16)));
             }
-            resolve_standing(&cues, &text, &mut random);
+            resolve_standing(page, &cues, &text, &mut random);
             cues.reverse();
-            resolve_standing(&cues, &text, &mut random);
+            resolve_standing(page, &cues, &text, &mut random);
         }
     }
     report("endings_at_every_distance", 601 * 7 * 2);
@@ -202,18 +307,19 @@ fn endings_at_every_distance() {
 fn longest_texts_and_phrases() {
     let mut random = Random::new(57);
     for n in [PHRASE - 1, PHRASE, PHRASE + 1, 5000, TEXT - 1, TEXT] {
-        for text in [word(ALPHABETS[2], n, &mut random), periodic(b"aB\r\n", n), fibonacci(n), vec![b'\n'; n]] {
+        for text in [word(ALPHABETS[6], n, &mut random), periodic(b"aB\r\n", n), fibonacci(n), vec![b'\n'; n]] {
             for m in [1, 2, 255, 256, 257, PHRASE - 1, PHRASE] {
+                let page = PAGES[m % 2];
                 if m > n {
-                    resolve_missing(&[Cue::new(&periodic(&text, m), 1, b"")], 0, &text, &mut random);
+                    resolve_missing(page, &[Cue::new(&periodic(&text, m), 1, b"")], 0, &text, &mut random);
                     continue;
                 }
-                let phrase = in_any_case(&text[n - m..], &mut random);
-                let last = total(&phrase, &text) as u16;
+                let phrase = in_any_case(page, &text[n - m..], &mut random);
+                let last = total(page, &phrase, &text) as u16;
                 let cues = [1, last / 2 + 1, last, last + 1, 65_535].map(|ordinal| Cue::new(&phrase, ordinal, b"title"));
-                resolve_standing(&cues[..3], &text, &mut random);
-                resolve_missing(&cues, 3, &text, &mut random);
-                resolve_missing(&cues[4..], 0, &text, &mut random);
+                resolve_standing(page, &cues[..3], &text, &mut random);
+                resolve_missing(page, &cues, 3, &text, &mut random);
+                resolve_missing(page, &cues[4..], 0, &text, &mut random);
             }
         }
     }
@@ -223,29 +329,30 @@ fn longest_texts_and_phrases() {
 #[test]
 fn most_cues() {
     let mut random = Random::new(58);
-    for n in [1, 50, 2000] {
-        let text = verse(ALPHABETS[2], n, &mut random);
-        let mut cues: Vec<Cue> = (0..CUES).map(|_| standing(&text, 8, &mut random)).collect();
-        resolve_standing(&cues, &text, &mut random);
+    for (page, n) in [(1, 1), (15, 50), (1, 2000), (15, 2000)] {
+        let text = verse(page, ALPHABETS[6], n, &mut random);
+        let mut cues: Vec<Cue> = (0..CUES).map(|_| standing(page, &text, 8, &mut random)).collect();
+        resolve_standing(page, &cues, &text, &mut random);
         for place in [998, 997, 500, 256, 255, 1, 0] {
             cues[place] = Cue::new(b"not in any verse", 1, b"");
-            resolve_missing(&cues, place, &text, &mut random);
+            resolve_missing(page, &cues, place, &text, &mut random);
         }
     }
-    report("most_cues", 3 * 8);
+    report("most_cues", 4 * 8);
 }
 
 #[test]
 fn nothing_to_find_or_to_search() {
     let mut random = Random::new(59);
     for text in [&b""[..], b"A", b"L\xc0\n", &[b'A'; TEXT]] {
-        for _ in 0..20 {
-            resolve_standing(&[], text, &mut random);
+        for round in 0..20 {
+            resolve_standing(page_of(round), &[], text, &mut random);
         }
     }
-    for _ in 0..20 {
-        resolve_missing(&[Cue::new(b"a", 1, b"")], 0, b"", &mut random);
-        resolve_missing(&[Cue::new(b"ab", 1, b""), Cue::new(b"a", 1, b"")], 0, b"a", &mut random);
+    for round in 0..20 {
+        let page = page_of(round);
+        resolve_missing(page, &[Cue::new(b"a", 1, b"")], 0, b"", &mut random);
+        resolve_missing(page, &[Cue::new(b"ab", 1, b""), Cue::new(b"a", 1, b"")], 0, b"a", &mut random);
     }
     report("nothing_to_find_or_to_search", 120);
 }

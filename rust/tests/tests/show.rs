@@ -1,7 +1,8 @@
 //! The programs for titling desks, as processes: `book` writes a cue book from a table, and `show` prints the show file, once in C and once over the
-//! safe interface, which must print the same.
+//! safe interface, which must print the same. Both go by either page.
 
 use libretto_tests::books::{book, Cue, CUES};
+use libretto_tests::pages::{letters, sign, PAGES};
 use libretto_tests::programs::{c_example, repository, rust_example};
 use libretto_tests::verses::{self, places};
 use libretto_tests::Random;
@@ -13,6 +14,14 @@ use std::sync::LazyLock;
 
 const HEAD: &str = "cue  place   line  column  title\n";
 const REFRAINS: &str = "\ntotal  phrase, and below it its places\n";
+
+const SHOW_USAGE: &str = "usage: show [--page 1|15] [--bytes] TEXT BOOK\n";
+const BOOK_USAGE: &str = "usage: book [--page 1|15] [--bytes] < TABLE > BOOK\n";
+
+/// The options that name a page. Page 1 need not be named.
+fn of_page(page: u32) -> [&'static str; 2] {
+    ["--page", if page == 1 { "1" } else { "15" }]
+}
 
 struct Programs {
     book: PathBuf,
@@ -96,12 +105,18 @@ impl Desk {
         self.show_into(arguments, Stdio::piped)
     }
 
+    /// Shows this book in this text with these options.
+    #[track_caller]
+    fn show_by(&self, options: &[&str], text: &[u8], book: &[u8]) -> Left {
+        self.write("text", text);
+        self.write("book", book);
+        self.show(&[options, &["text", "book"]].concat())
+    }
+
     /// Shows this book in this text.
     #[track_caller]
     fn show_of(&self, text: &[u8], book: &[u8]) -> Left {
-        self.write("text", text);
-        self.write("book", book);
-        self.show(&["text", "book"])
+        self.show_by(&[], text, book)
     }
 }
 
@@ -111,13 +126,18 @@ fn example(name: &str) -> Vec<u8> {
 
 /// Text in UTF-8 turned into ISO 8859-1.
 fn latin1(utf8: &[u8]) -> Vec<u8> {
-    let text = std::str::from_utf8(utf8).expect("the text is in UTF-8");
-    text.chars().map(|letter| u8::try_from(letter).expect("the letter is in ISO 8859-1")).collect()
+    letters(1, std::str::from_utf8(utf8).expect("the text is in UTF-8"))
 }
 
-/// Letters as a show file has them, where the bytes 10 and 13 are the only ones that are written in another way.
-fn shown(letters: &[u8]) -> String {
-    letters.iter().map(|&letter| char::from(letter)).collect::<String>().replace('\n', "\\n").replace('\r', "\\x0d")
+/// Letters of a page as a show file has them: control bytes by their numbers, 10 as \n, and a backslash twice.
+fn shown(page: u32, letters: &[u8]) -> String {
+    let written = |&letter: &u8| match letter {
+        b'\n' => "\\n".to_string(),
+        b'\\' => "\\\\".to_string(),
+        0..=31 | 127..=159 => format!("\\x{letter:02x}"),
+        _ => sign(page, letter).to_string(),
+    };
+    letters.iter().map(written).collect()
 }
 
 /// The line and the column of a place that a letter stands at: the endings before it are made one byte each, and the text is taken apart there. A 13
@@ -134,22 +154,22 @@ fn line_and_column(text: &[u8], place: usize) -> (usize, usize) {
 }
 
 /// The show file of cues that stand in the text, by brute force.
-fn show_file(text: &[u8], cues: &[Cue]) -> String {
+fn show_file(page: u32, text: &[u8], cues: &[Cue]) -> String {
     let mut file = HEAD.to_string();
     for (index, cue) in cues.iter().enumerate() {
-        let place = places(&cue.phrase, text)[usize::from(cue.ordinal) - 1];
+        let place = places(page, &cue.phrase, text)[usize::from(cue.ordinal) - 1];
         let (line, column) = line_and_column(text, place);
-        let row = format!("{index:3}  {place:5}  {line:5}  {column:6}  {}", shown(&cue.title));
+        let row = format!("{index:3}  {place:5}  {line:5}  {column:6}  {}", shown(page, &cue.title));
         file += &format!("{}\n", row.trim_end());
     }
     file += REFRAINS;
     let mut printed: Vec<Vec<usize>> = Vec::new();
     for cue in cues {
-        let places = places(&cue.phrase, text);
+        let places = places(page, &cue.phrase, text);
         // Phrases of cues that stand in the text are the same in any case exactly if they are of one length and have one list.
         let list = [&[cue.phrase.len()], &places[..]].concat();
         if !printed.contains(&list) {
-            file += &format!("{:5}  \"{}\"\n", places.len(), shown(&cue.phrase));
+            file += &format!("{:5}  \"{}\"\n", places.len(), shown(page, &cue.phrase));
             for row in places.chunks(10) {
                 let row: Vec<String> = row.iter().map(|place| format!("{place:5}")).collect();
                 file += &format!("       {}\n", row.join("  "));
@@ -166,10 +186,53 @@ fn the_aria() {
     let (text, table, expected) = (example("aria.txt"), example("aria.cues"), example("aria.show"));
     let made = desk.book(&[], &table);
     made.is(0, &example("aria.book"), "");
-    desk.book(&["--latin1"], &latin1(&table)).is(0, &made.out, "");
+    desk.book(&["--bytes"], &latin1(&table)).is(0, &made.out, "");
+    desk.book(&["--page", "1"], &table).is(0, &made.out, "");
 
     desk.show_of(&text, &made.out).is(0, &expected, "");
-    desk.show(&["--latin1", "text", "book"]).is(0, &latin1(&expected), "");
+    desk.show_by(&["--page", "1"], &text, &made.out).is(0, &expected, "");
+    desk.show_by(&["--bytes"], &text, &made.out).is(0, &latin1(&expected), "");
+    // The aria has none of the letters by which the pages differ.
+    desk.book(&["--page", "15"], &table).is(0, &made.out, "");
+    desk.show_by(&["--page", "15"], &text, &made.out).is(0, &expected, "");
+}
+
+const SONG: &str = "LE CHŒUR DE L'HAŸ\nMon cœur,\nMON CŒUR\ncoûte 5 €.\n";
+const SONG_CUES: &str = "1\tle chœur de l'haÿ\tŒdipe in L'Haÿ\n2\tCœur\tMy heart\n1\tCOÛTE 5 €\tcosts €5\n";
+const SONG_SHOW: &str = "cue  place   line  column  title
+  0      0      1       1  Œdipe in L'Haÿ
+  1     32      3       5  My heart
+  2     37      4       1  costs €5
+
+total  phrase, and below it its places
+    1  \"le chœur de l'haÿ\"
+           0
+    2  \"Cœur\"
+          22     32
+    1  \"COÛTE 5 €\"
+          37
+";
+
+/// A French song, whose cues are found in capital letters too: the table in UTF-8 and in ISO 8859-15, the options in either order.
+#[test]
+fn a_french_song() {
+    let desk = Desk::new("french");
+    let [text, table, show] = [SONG, SONG_CUES, SONG_SHOW].map(|written| letters(15, written));
+    let cue = |phrase, ordinal, title| Cue::new(&letters(15, phrase), ordinal, &letters(15, title));
+    let cues = [cue("le chœur de l'haÿ", 1, "Œdipe in L'Haÿ"), cue("Cœur", 2, "My heart"), cue("COÛTE 5 €", 1, "costs €5")];
+    let made = desk.book(&["--page", "15"], SONG_CUES.as_bytes());
+    made.is(0, &book(&cues), "");
+    for options in [["--bytes", "--page", "15"], ["--page", "15", "--bytes"]] {
+        desk.book(&options, &table).is(0, &made.out, "");
+        desk.show_by(&options, &text, &made.out).is(0, &show, "");
+    }
+    desk.show_by(&["--page", "15"], &text, &made.out).is(0, SONG_SHOW.as_bytes(), "");
+
+    // By page 1 the same bytes are other signs, and the capital and the small letter are two.
+    let refused = "book: cue 0: the cue's occurrence does not exist: ordinal 1 of \"le ch½ur de l'haÿ\", total 0\n";
+    desk.show_of(&text, &made.out).is_refusal(refused);
+    let refused = "book: cue 0: the cue's occurrence does not exist: ordinal 2 of \"C½ur\", total 1\n";
+    desk.show_by(&["--page", "1"], &text, &book(&cues[1..])).is_refusal(refused);
 }
 
 /// The aria as old desks send it, its lines ended by 13, or by 13 and 10: each cue has the line and the column that it has in the aria.
@@ -196,20 +259,20 @@ fn the_aria_from_old_desks() {
 fn random_verses() {
     let desk = Desk::new("verses");
     let mut random = Random::new(71);
-    for round in 0..60 {
-        let alphabet = verses::ALPHABETS[round % verses::ALPHABETS.len()];
+    for round in 0..70 {
+        let (page, alphabet) = (PAGES[round % 2], verses::ALPHABETS[round % 7]);
         let length = random.between(1, 300);
-        let text = verses::verse(alphabet, length, &mut random);
-        let cues: Vec<Cue> = (0..random.between(0, 12)).map(|_| verses::standing(&text, 5, &mut random)).collect();
-        desk.show_of(&text, &book(&cues)).is(0, show_file(&text, &cues).as_bytes(), "");
+        let text = verses::verse(page, alphabet, length, &mut random);
+        let cues: Vec<Cue> = (0..random.between(0, 12)).map(|_| verses::standing(page, &text, 5, &mut random)).collect();
+        desk.show_by(&of_page(page), &text, &book(&cues)).is(0, show_file(page, &text, &cues).as_bytes(), "");
 
-        let missing = verses::missing(alphabet, &text, &mut random);
-        let total = verses::total(&missing.phrase, &text);
-        desk.show_of(&text, &book(&[&cues[..], slice::from_ref(&missing)].concat())).is_refusal(&format!(
+        let missing = verses::missing(page, alphabet, &text, &mut random);
+        let total = verses::total(page, &missing.phrase, &text);
+        desk.show_by(&of_page(page), &text, &book(&[&cues[..], slice::from_ref(&missing)].concat())).is_refusal(&format!(
             "book: cue {}: the cue's occurrence does not exist: ordinal {} of \"{}\", total {total}\n",
             cues.len(),
             missing.ordinal,
-            shown(&missing.phrase)
+            shown(page, &missing.phrase)
         ));
     }
 }
@@ -231,7 +294,7 @@ fn limits() {
     let desk = Desk::new("limits");
     let text = [b'a'; 32_769];
     let longest = [Cue::new(b"A", 32_768, &[b'T'; 200]), Cue::new(&text[..1024], 31_745, b"")];
-    desk.show_of(&text[..32_768], &book(&longest)).is(0, show_file(&text[..32_768], &longest).as_bytes(), "");
+    desk.show_of(&text[..32_768], &book(&longest)).is(0, show_file(1, &text[..32_768], &longest).as_bytes(), "");
     desk.show_of(&text, &book(&longest)).is_refusal("text: the text has more than 32,768 bytes\n");
     // The book is read before the text is looked at.
     desk.show_of(&text, b"\x01").is_refusal("book: cue 0: the book ends inside a field\n");
@@ -239,11 +302,11 @@ fn limits() {
     let numbers: Vec<String> = (0..=CUES).map(|number| format!("#{number:03}")).collect();
     let cues: Vec<Cue> = numbers.iter().map(|number| Cue::new(number.as_bytes(), 1, b"")).collect();
     let text = numbers.concat();
-    desk.show_of(text.as_bytes(), &book(&cues[..CUES])).is(0, show_file(text.as_bytes(), &cues[..CUES]).as_bytes(), "");
+    desk.show_of(text.as_bytes(), &book(&cues[..CUES])).is(0, show_file(1, text.as_bytes(), &cues[..CUES]).as_bytes(), "");
     let too_many = "book: cue 999: bytes remain after 999 cues\n";
     desk.show_of(text.as_bytes(), &book(&cues)).is_refusal(too_many);
     let longest = vec![Cue::new(&[b'a'; 1024], 1, &[b'T'; 200]); CUES];
-    desk.show_of(&[b'a'; 1024], &book(&longest)).is(0, show_file(&[b'a'; 1024], &longest).as_bytes(), "");
+    desk.show_of(&[b'a'; 1024], &book(&longest)).is(0, show_file(1, &[b'a'; 1024], &longest).as_bytes(), "");
     desk.show_of(&[b'a'; 1024], &[&book(&longest)[..], &[1]].concat()).is_refusal(too_many);
 
     let line = |number: &String| format!("1\t{number}\t\n");
@@ -312,7 +375,59 @@ fn refused_tables() {
     let desk = Desk::new("tables");
     desk.book(&[], table.as_bytes()).is_refusal(&told);
     desk.book(&[], b"1\tl\xe0\tNo").is_refusal(&format!("line 1: {no_letter}\n"));
-    desk.book(&["--latin1"], b"1\tl\xe0\tNo").is(0, &book(&[Cue::new(b"l\xe0", 1, b"No")]), "");
+    desk.book(&["--bytes"], b"1\tl\xe0\tNo").is(0, &book(&[Cue::new(b"l\xe0", 1, b"No")]), "");
+}
+
+/// What is told of a line that has a letter which is not on the page.
+fn no_letter(page: u32) -> String {
+    format!("a letter is not in ISO 8859-{page}, or the table is not in UTF-8")
+}
+
+/// All signs that UTF-8 writes in up to three bytes, and some longer ones: those of the page make its letters, and each other one is refused.
+#[test]
+fn every_sign() {
+    let desk = Desk::new("signs");
+    for page in PAGES {
+        let on_page = |wanted: &char| (0..=255).any(|letter| sign(page, letter) == *wanted);
+        let line = |wanted: &char| format!("1\t{wanted}\t\n");
+        let signs = ('\u{80}'..='\u{ffff}').chain(['\u{10000}', '\u{1d11e}', '\u{10ffff}']);
+        let (own, others): (Vec<char>, Vec<char>) = signs.partition(on_page);
+        assert_eq!((own.len(), others.len()), (128, 0x1_0000 - 2048 - 256 + 3), "page {page}");
+
+        let cues: Vec<Cue> = own.iter().map(|&own| Cue::new(&letters(page, &own.to_string()), 1, b"")).collect();
+        desk.book(&of_page(page), own.iter().map(line).collect::<String>().as_bytes()).is(0, &book(&cues), "");
+        let left = desk.book(&of_page(page), others.iter().map(line).collect::<String>().as_bytes());
+        let errors = String::from_utf8(left.errors).expect("what is told is in UTF-8");
+        for (index, (told, other)) in errors.lines().zip(&others).enumerate() {
+            assert_eq!(told, format!("line {}: {}", index + 1, no_letter(page)), "page {page}, {other:?}");
+        }
+        assert_eq!((left.status, left.out, errors.lines().count()), (Some(1), vec![], others.len()), "page {page}");
+    }
+    // The signs of the eight bytes at which the pages differ, on the page that has them and on the other one.
+    for (page, other, signs) in [(1, 15, "¤¦¨´¸¼½¾"), (15, 1, "€ŠšŽžŒœŸ")] {
+        for own in signs.chars() {
+            let table = format!("1\tla\t{own}\n");
+            desk.book(&of_page(page), table.as_bytes()).is(0, &book(&[Cue::new(b"la", 1, &letters(page, &own.to_string()))]), "");
+            desk.book(&of_page(other), table.as_bytes()).is_refusal(&format!("line 1: {}\n", no_letter(other)));
+        }
+    }
+}
+
+/// Bytes that are no UTF-8: bytes that continue nothing, signs cut short by a TAB, another letter or the line's end, the euro sign behind bytes that do
+/// not begin it, and signs in more bytes than they need, which would be letters of the page.
+#[test]
+fn tables_that_are_not_in_utf8() {
+    let desk = Desk::new("utf8");
+    let alone = (0x80..=0xff).map(|byte| vec![byte]);
+    let cut: [&[u8]; 8] = [b"\xc5a", b"\xe2\x82", b"\xe2\x82a", b"\xe2a\xac", b"\xe2\xc5\x93", b"\xc3\xc3\xa9", b"\xf0\x9d\x84", b"\xff\xff"];
+    let begun: [&[u8]; 4] = [b"\x82\x82\xac", b"\xb2\x82\xac", b"\xf2\x82\xac", b"\xfe\x82\xac"];
+    let long: [&[u8]; 7] = [b"\xc0\xa1", b"\xc1\xa1", b"\xe0\x81\xa1", b"\xe0\x82\xa4", b"\xe0\x83\xa9", b"\xf0\x82\x82\xac", b"\xf0\x80\x83\xa9"];
+    let wrong: Vec<Vec<u8>> = alone.chain(cut.iter().chain(&begun).chain(&long).map(|bytes| bytes.to_vec())).collect();
+    for page in PAGES {
+        let lines = wrong.iter().flat_map(|bytes| [[b"1\t", &bytes[..], b"\tNo\n"].concat(), [b"1\tla\t", &bytes[..], b"\n"].concat()]);
+        let told: String = (1..=2 * wrong.len()).map(|number| format!("line {number}: {}\n", no_letter(page))).collect();
+        desk.book(&of_page(page), &lines.collect::<Vec<_>>().concat()).is_refusal(&told);
+    }
 }
 
 #[test]
@@ -323,20 +438,28 @@ fn every_byte() {
     let shown = "\\x00\\x1f \\\\\\x7f\\x80\\x9f\u{a0}\u{ff}\\n";
     left.is(0, format!("{HEAD}  0      0      1       1  {shown}\n{REFRAINS}    1  \"{shown}\"\n           0\n").as_bytes(), "");
 
-    // What the show file has for a phrase and a title may be put into a table, and makes the same book.
+    // All bytes, by both pages. What the show file has for a phrase and a title may be put into a table, and makes the same book.
     let all: Vec<u8> = (0..=255).collect();
     let cues: Vec<Cue> = all.chunks(128).map(|half| Cue::new(half, 1, half)).collect();
-    desk.write("text", &all);
-    desk.write("book", &book(&cues));
-    for option in [&[][..], &["--latin1"]] {
-        let left = desk.show(&[option, &["text", "book"]].concat());
-        let lines: Vec<&[u8]> = left.out.split(|&byte| byte == b'\n').collect();
-        let line = |cue: usize| {
-            let (title, phrase) = (&lines[1 + cue][27..], &lines[5 + 2 * cue][8..]);
-            [b"1\t", &phrase[..phrase.len() - 1], b"\t", title, b"\n"].concat()
-        };
-        desk.book(option, &[line(0), line(1)].concat()).is(0, &book(&cues), "");
+    for page in PAGES {
+        let in_utf8 = desk.show_by(&of_page(page), &all, &book(&cues));
+        in_utf8.is(0, show_file(page, &all, &cues).as_bytes(), "");
+        let as_bytes = desk.show_by(&[&of_page(page)[..], &["--bytes"]].concat(), &all, &book(&cues));
+        as_bytes.is(0, &letters(page, &show_file(page, &all, &cues)), "");
+
+        desk.book(&of_page(page), &table_of(&in_utf8.out)).is(0, &book(&cues), "");
+        desk.book(&[&["--bytes"], &of_page(page)[..]].concat(), &table_of(&as_bytes.out)).is(0, &book(&cues), "");
     }
+}
+
+/// The table of the two cues of a show file, both with ordinal 1 and one place.
+fn table_of(show: &[u8]) -> Vec<u8> {
+    let lines: Vec<&[u8]> = show.split(|&byte| byte == b'\n').collect();
+    let line = |cue: usize| {
+        let (title, phrase) = (&lines[1 + cue][27..], &lines[5 + 2 * cue][8..]);
+        [b"1\t", &phrase[..phrase.len() - 1], b"\t", title, b"\n"].concat()
+    };
+    [line(0), line(1)].concat()
 }
 
 #[test]
@@ -346,13 +469,38 @@ fn files_that_fail() {
     desk.show(&["absent", "book"]).is_failure("absent: No such file or directory\n");
     desk.show(&["text", "absent"]).is_failure("absent: No such file or directory\n");
     desk.show(&[".", "book"]).is_failure(".: Is a directory\n");
-    for arguments in [&[][..], &["text"], &["--latin1", "text"], &["text", "book", "more"]] {
-        desk.show(arguments).is_failure("usage: show [--latin1] TEXT BOOK\n");
-    }
-    desk.book(&["table"], b"").is_failure("usage: book [--latin1] < TABLE > BOOK\n");
 
     let full = || File::options().write(true).open("/dev/full").expect("the full device opens").into();
     desk.show_into(&["text", "book"], full).is_failure("standard output: No space left on device\n");
     let folder = || File::open(&desk.0).expect("the folder opens").into();
     desk.run(&PROGRAMS.book, &[], folder(), Stdio::piped()).is_failure("standard input: Is a directory\n");
+}
+
+/// Options that are wrong, come twice, or stand behind the files, and another number of files than there should be.
+#[test]
+fn wrong_calls() {
+    let desk = Desk::new("calls");
+    desk.show_of(b"la", b"").is(0, [HEAD, REFRAINS].concat().as_bytes(), "");
+    let files: [&[&str]; 7] =
+        [&[], &["text"], &["--bytes", "text"], &["--page", "15", "text"], &["text", "book", "more"], &["text", "book", "--bytes"], &["--bytes"]];
+    for arguments in files {
+        desk.show(arguments).is_failure(SHOW_USAGE);
+    }
+    desk.book(&["table"], b"").is_failure(BOOK_USAGE);
+    desk.book(&["--page", "15", "table"], b"").is_failure(BOOK_USAGE);
+
+    let pages =
+        ["0", "2", "9", "14", "16", "151", "115", "-1", "+1", "01", "015", "1 ", " 15", "15.0", "0x1", "1e0", "", "latin1", "--bytes", "4294967297"];
+    let wrong_pages = pages.iter().map(|page| vec!["--page", page]);
+    let twice = [vec!["--bytes", "--bytes"], vec!["--page", "15", "--page", "15"], vec!["--page", "1", "--bytes", "--page", "1"]];
+    let unknown = [vec!["--latin1"], vec!["--page=15"], vec!["--"], vec!["--bytes", "--help"], vec!["--pages", "15"]];
+    for options in wrong_pages.chain(twice).chain(unknown) {
+        for files in [&["text", "book"][..], &[]] {
+            desk.show(&[&options, files].concat()).is_failure(SHOW_USAGE);
+        }
+        desk.book(&options, b"").is_failure(BOOK_USAGE);
+    }
+    desk.book(&["--page"], b"").is_failure(BOOK_USAGE);
+    desk.show(&["--page"]).is_failure(SHOW_USAGE);
+    desk.show(&["text", "book", "--page"]).is_failure(SHOW_USAGE);
 }

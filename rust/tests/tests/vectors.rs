@@ -2,7 +2,7 @@
 
 use libretto_tests::programs::repository;
 use reference::{
-    delta1_table, delta2_table, endings, find, horspool_table, kmp_table, line_and_column, max_shift_table, relist, sunday_table, widest_gap,
+    delta1_table, delta2_table, endings, find, fold, horspool_table, kmp_table, line_and_column, max_shift_table, relist, sunday_table, widest_gap,
 };
 use std::fmt::Display;
 use std::fs;
@@ -176,6 +176,15 @@ fn line_rule() -> String {
     texts.concat() + &told.collect::<String>()
 }
 
+/// Request (iv) of document 02: letters folded by a page, and pages that there are not.
+fn folds() -> String {
+    let by_1 = [0xc9, 0xd7, 0xdf, 0xff, 0xbc].map(|letter| (1, letter));
+    let by_15 = [0xa6, 0xa8, 0xb4, 0xb8, 0xbc, 0xbd, 0xbe, 0xff, 0xc9, 0xd7, 0xdf].map(|letter| (15, letter));
+    let unknown = [0, 2, 16].map(|page| (page, 0xc9));
+    let folded = |(page, letter)| line("fold", [page, u32::from(letter)].into_iter().chain(<[u32; 2]>::from(fold(page, letter))));
+    by_1.into_iter().chain(by_15).chain(unknown).map(folded).collect()
+}
+
 #[test]
 fn the_expected_output() {
     let path = repository().join("crates/vectors/stdout");
@@ -183,7 +192,7 @@ fn the_expected_output() {
     let engines = [0, 4, 256, 256, 260, 256, 259, 264].into_iter().zip(0..).map(|(enough, method)| engine(method, enough));
     let tables = [tables(), delta2_tables(), max_shift_tables()].concat();
     let finds = [engines.collect(), case(8, "aba", "ababa", ROOM), kmp_bound(), boyer_moore(), improved()].concat();
-    let due = [tables, finds, cuts(), line_rule()].concat();
+    let due = [tables, finds, cuts(), line_rule(), folds()].concat();
 
     let (mut held_lines, mut due_lines) = (held.lines(), due.lines());
     for number in 1.. {

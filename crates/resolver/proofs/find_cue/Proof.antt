@@ -9,24 +9,22 @@ use lib.Seq.{take-at}
 use Rattle.matching.specs.Occurrences.{occurrences}
 use Rattle.matching.proofs.Received.{received-front}
 use Rattle.fjs.specs.Nth.{nthOf}
-use Rattle.fold.specs.Fold.{folded}
+use Rattle.fold.specs.Fold.{foldOn}
+use Rattle.fold.proofs.Fold.{letters-left}
 use Rattle.resolver.proofs.Walking.{nth-is}
 use Rattle.resolver.proofs.find_cue.Statement.{statement}
 use Rattle.resolver.proofs.find_cue.Tie as tie
 
 -- the folded phrase is the buffer's front
 module _ (l : tie.After-letters) where
-  held : let a = l .before .before .before .before .before .before .args in take (length (a .letters .now)) (l .letters .last .1 .0) ≡ map folded (a .letters .now)
-  held =
-      let s = l .before .before .before .before .before .before in
-      let a = s .args in
-      let values = map folded (a .letters .now) in
-      let size = length-map (a .letters .now) folded in
-      ap (λ (x : List ℕ). take (length (a .letters .now)) x) (l .letters .ensures ∙ received-front (a .phrase .now) values (omega (arith, size, s .pre .0 .1, s .pre .1 .1 .0)))
-      ∙ take-at values (drop (length values) (a .phrase .now)) (length (a .letters .now)) size
+  abbrev start : tie.Start
+  start = l .before .before .before .before .before .before
 
-  size-held : let a = l .before .before .before .before .before .before .args in length (take (length (a .letters .now)) (l .letters .last .1 .0)) ≡ length (a .letters .now)
-  size-held = ap length held ∙ length-map (l .before .before .before .before .before .before .args .letters .now) folded
+  held : take (length (start .args .letters .now)) (l .letters .last .1 .1 .0) ≡ map (foldOn (start .args .page)) (start .args .letters .now)
+  held = letters-left (l .letters .ensures) (start .pre .0 .0) (omega (arith, start .pre .0 .1 .1, start .pre .1 .1 .0))
+
+  size-held : length (take (length (start .args .letters .now)) (l .letters .last .1 .1 .0)) ≡ length (start .args .letters .now)
+  size-held = ap length held ∙ length-map (start .args .letters .now) (foldOn (start .args .page))
 
 letters-requires : tie.Need-letters-requires
 letters-requires c κs = search needs
@@ -50,9 +48,9 @@ returns : tie.Need-returns
 returns c =
     let n = c .before .before in
     let l = n .before .before .before .before .before in
-    let s = l .before .before .before .before .before .before in
+    let s = start l in
     let a = s .args in
-    nth-is (n .nth .ensures) (omega (arith, size-held l, s .pre .0 .0)) (omega (arith, size-held l, s .pre .0 .1)) (s .pre .1 .0) (s .pre .1 .1 .1)
+    nth-is (n .nth .ensures) (omega (arith, size-held l, s .pre .0 .1 .0)) (omega (arith, size-held l, s .pre .0 .1 .1)) (s .pre .1 .0) (s .pre .1 .1 .1)
     ∙ ap (λ (P : List ℕ). nthOf (occurrences P (a .copy .now)) (a .ordinal)) (held l)
 
 pub find-cue-spec : {M : Type 1} → statement M

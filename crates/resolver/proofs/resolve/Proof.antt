@@ -1,13 +1,14 @@
 -- `resolver::resolve` meets its contract: the tests in their order, then the text folded, the cues resolved, and the work buffers cleared. Assumes nothing.
 use borrow.Author.Needs.{needs}
-use mathlib.Core.Path.{_≡_, sym, ap, _∙_}
+use mathlib.Core.Path.{_≡_, refl, sym, ap, _∙_}
 use mathlib.Core.List.{List, _++_, map}
 use Prim.Native.Nat.{ℕ, _*_, _≤_}
 use native.Mathlib.Omega.{arith}
 use lib.ListN.{length, take, drop, replicate, length-map}
-use lib.Seq.{take-at}
+use Rattle.matching.specs.Received.{received}
 use Rattle.matching.proofs.Received.{received-front}
-use Rattle.fold.specs.Fold.{folded}
+use Rattle.fold.specs.Fold.{foldOn}
+use Rattle.fold.proofs.Fold.{letters-left}
 use Rattle.matching.specs.declared.Answer.{Answer}
 use Rattle.cue_book.specs.Reading.{cues, readBook, numberOf, cuesIn}
 use Rattle.cue_book.proofs.Books.{accepted-book}
@@ -20,7 +21,7 @@ use Rattle.resolver.proofs.resolve.Tie as tie
 
 -- the call, as it came in
 abbrev called : tie.Start → Call
-called s = let a = s .args in call (a .text .now) (a .copy .now) (a .phrase .now) (a .scratch .now) (a .entries .now)
+called s = let a = s .args in call (a .page) (a .text .now) (a .copy .now) (a .phrase .now) (a .scratch .now) (a .entries .now)
 
 -- the places after the tests of the memory, of the book and of the entries, and where the call came in
 abbrev start : tie.Else1 → tie.Start
@@ -71,13 +72,17 @@ module _ (l : tie.After-letters) where
   lent : Enough (called entry)
   lent = enough (fine (tested (accepted l)))
 
-  copied : l .letters .last .1 .0 ≡ map folded text ++ drop (length text) copy
-  copied =
-      let size = length-map text folded in
-      l .letters .ensures ∙ received-front copy (map folded text) (omega (arith, size, lent .whole)) ∙ ap (λ (k : ℕ). map folded text ++ drop k copy) size
+  abbrev values : List ℕ
+  values = map (foldOn (entry .args .page)) text
 
-  held : take (length text) (l .letters .last .1 .0) ≡ map folded text
-  held = ap (λ (x : List ℕ). take (length text) x) copied ∙ take-at (map folded text) (drop (length text) copy) (length text) (length-map text folded)
+  copied : l .letters .last .1 .1 .0 ≡ values ++ drop (length text) copy
+  copied =
+      let size = length-map text (foldOn (entry .args .page)) in
+      let left : l .letters .last .1 .1 .0 ≡ received copy values = l .letters .ensures .left ∙ rw (lent .known) refl in
+      left ∙ received-front copy values (omega (arith, size, lent .whole)) ∙ ap (λ (k : ℕ). values ++ drop k copy) size
+
+  held : take (length text) (l .letters .last .1 .1 .0) ≡ values
+  held = letters-left (l .letters .ensures) (lent .known) (lent .whole)
 
   three : 3 * length (cuesIn (readBook (book (accepted l)))) ≤ length (entry .args .entries .now)
   three = omega (arith, number (accepted l), l .before .before .if3 .left)
@@ -86,13 +91,13 @@ refused-requires : tie.Need-refused-requires
 refused-requires c κs = search needs
 
 returns : tie.Need-returns
-returns c = resolved-memory _ _ _ _ _ _ (c .before .refused .ensures) (c .if1 .taken)
+returns c = resolved-memory _ _ _ _ _ _ _ (c .before .refused .ensures) (c .if1 .taken)
 
 read-book-requires : tie.Need-read-book-requires
 read-book-requires c κs = search needs
 
 returns-2 : tie.Need-returns-2
-returns-2 c = let b = c .before .before in resolved-book _ _ _ _ _ _ (fine (b .before)) (b .read-book .ensures) (c .if2 .taken)
+returns-2 c = let b = c .before .before in resolved-book _ _ _ _ _ _ _ (fine (b .before)) (b .read-book .ensures) (c .if2 .taken)
 
 cast-cues : tie.Need-cast-cues
 cast-cues c = search needs
@@ -101,7 +106,7 @@ mul-if3 : tie.Need-mul-if3
 mul-if3 c = search needs
 
 returns-3 : tie.Need-returns-3
-returns-3 c = let e = c .before .before in resolved-few _ _ _ _ _ _ (fine (tested e)) (read e .0) (omega (arith, number e, c .if3 .taken))
+returns-3 c = let e = c .before .before in resolved-few _ _ _ _ _ _ _ (fine (tested e)) (read e .0) (omega (arith, number e, c .if3 .taken))
 
 letters-requires : tie.Need-letters-requires
 letters-requires c κs = search needs
@@ -109,17 +114,17 @@ letters-requires c κs = search needs
 slice-reshare-prefix-resolve-cues : tie.Need-slice-reshare-prefix-resolve-cues
 slice-reshare-prefix-resolve-cues c =
     let l = c .before .before in
-    let same : length (l .letters .last .1 .0) ≡ length (copy l) = l .letters .kept .1 .0 in
-    let enough : length (text l) ≤ length (l .letters .last .1 .0) = omega (arith, same, lent l .whole) in
+    let same : length (l .letters .last .1 .1 .0) ≡ length (copy l) = l .letters .kept .1 .1 .0 in
+    let enough : length (text l) ≤ length (l .letters .last .1 .1 .0) = omega (arith, same, lent l .whole) in
     enough
 
 slice-aggregate-resolve-cues : tie.Need-slice-aggregate-resolve-cues
-slice-aggregate-resolve-cues c = let l = c .before .before .before in sym (ap length (held l) ∙ length-map (text l) folded)
+slice-aggregate-resolve-cues c = let l = c .before .before .before in sym (ap length (held l) ∙ length-map (text l) (foldOn (entry l .args .page)))
 
 resolve-cues-requires : tie.Need-resolve-cues-requires
 resolve-cues-requires c κs =
     let l = c .before .before .before .before .before .before in
-    record { read = read (accepted l) .0; number = number (accepted l); three = three l; small = lent l .small; copied = held l; buffer = lent l .buffer; tables = lent l .tables }
+    record { read = read (accepted l) .0; number = number (accepted l); three = three l; known = lent l .known; small = lent l .small; copied = held l; buffer = lent l .buffer; tables = lent l .tables }
 
 clear-bytes-requires : tie.Need-clear-bytes-requires
 clear-bytes-requires c κs = search needs
@@ -145,9 +150,9 @@ returns-4 c =
     let b = clearing n in
     let k = resolving b in
     let l = folding k in
-    resolved-works _ _ _ _ _ _ (fine (tested (accepted l))) (read (accepted l) .0) (three l) (copied l)
-    (b .clear-bytes .ensures ∙ ap (λ (n : ℕ). replicate n 0) (k .resolve-cues .kept .1 .1 .1 .1 .0))
-    (n .set-all .ensures ∙ ap (λ (n : ℕ). replicate n 0) (k .resolve-cues .kept .1 .1 .1 .1 .1 .0))
+    resolved-works _ _ _ _ _ _ _ (fine (tested (accepted l))) (read (accepted l) .0) (three l) (copied l)
+    (b .clear-bytes .ensures ∙ ap (λ (n : ℕ). replicate n 0) (k .resolve-cues .kept .1 .1 .1 .1 .1 .0))
+    (n .set-all .ensures ∙ ap (λ (n : ℕ). replicate n 0) (k .resolve-cues .kept .1 .1 .1 .1 .1 .1 .0))
     (k .resolve-cues .ensures)
 
 pub resolve-spec : {M : Type 1} → statement M

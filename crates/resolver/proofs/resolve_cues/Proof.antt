@@ -9,7 +9,7 @@ use lib.ListN.{length, drop, length-drop, length-map}
 use lib.Seq.{length-take-le}
 use Rattle.matching.specs.Occurrences.{occurrences}
 use Rattle.matching.proofs.Received.{length-received}
-use Rattle.fold.specs.Fold.{folded}
+use Rattle.fold.specs.Fold.{foldOn}
 use Rattle.fjs.specs.Nth.{nthOf}
 use Rattle.cue_fields.specs.Field.{part}
 use Rattle.cues.specs.Cue.{Cue, cueWith}
@@ -23,11 +23,11 @@ use Rattle.resolver.proofs.resolve_cues.Statement.{statement}
 use Rattle.resolver.proofs.resolve_cues.Tie as tie
 
 abbrev Inv-loop : tie.InvT-loop
-Inv-loop book count text copy phrase₀ scratch₀ entries₀ index₀ at₀ place₀ known₀ spot₀ phrase scratch entries index at place known spot =
-    Along book text (cuesIn (readBook book)) entries₀ index at place entries × ((length phrase ≡ length phrase₀) × ((length scratch ≡ length scratch₀) × (spot ≡ lineColumn text known)))
+Inv-loop page book count text copy phrase₀ scratch₀ entries₀ index₀ at₀ place₀ known₀ spot₀ phrase scratch entries index at place known spot =
+    Along (foldOn page) book text (cuesIn (readBook book)) entries₀ index at place entries × ((length phrase ≡ length phrase₀) × ((length scratch ≡ length scratch₀) × (spot ≡ lineColumn text known)))
 
 abbrev μ-loop : tie.MeasureT-loop
-μ-loop book count text copy phrase₀ scratch₀ entries₀ index₀ at₀ place₀ known₀ spot₀ phrase scratch entries index at place known spot =
+μ-loop page book count text copy phrase₀ scratch₀ entries₀ index₀ at₀ place₀ known₀ spot₀ phrase scratch entries index at place known spot =
     count - index
 
 -- the places of this proof: where the call came in, the loop's turn, the cue that was read in it, the occurrence that was looked for, and the entries that were put
@@ -80,7 +80,7 @@ kept l =
 
 -- what was looked for is the occurrence that the cue names
 found : (f : tie.After-find-cue Inv-loop μ-loop) → let k = cue-read f in let l = turn k in let c = next (k .before .before .before .before) .cue in
-    f .find-cue .result ≡ nthOf (cueOccurrences folded (start l .args .text .now) c) (c .ordinal)
+    f .find-cue .result ≡ nthOf (cueOccurrences (foldOn (start l .args .page)) (start l .args .text .now) c) (c .ordinal)
 unfolding cueOccurrences letters
 found f =
     let k = cue-read f in
@@ -89,11 +89,11 @@ found f =
     let a = s .args in
     let c = next (k .before .before .before .before) .cue in
     f .find-cue .ensures
-    ∙ ap₂ (λ (P : List ℕ) (o : ℕ). nthOf (occurrences (map folded P) (a .copy .now)) o) (ap (λ (x : Cue). x .phrase) (means k)) (ap (λ (x : Cue). x .ordinal) (means k))
-    ∙ ap (λ (T : List ℕ). nthOf (occurrences (map folded (c .phrase)) T) (c .ordinal)) (s .pre .copied)
+    ∙ ap₂ (λ (P : List ℕ) (o : ℕ). nthOf (occurrences (map (foldOn (a .page)) P) (a .copy .now)) o) (ap (λ (x : Cue). x .phrase) (means k)) (ap (λ (x : Cue). x .ordinal) (means k))
+    ∙ ap (λ (T : List ℕ). nthOf (occurrences (map (foldOn (a .page)) (c .phrase)) T) (c .ordinal)) (s .pre .copied)
 
 loop-holds : tie.Need-loop-holds Inv-loop μ-loop
-loop-holds c = let s = c .before .before .before .before .before .before in let a = s .args in (along-first (a .book .now) (a .text .now) (cuesIn (readBook (a .book .now))) (a .entries .now) (s .pre .read), (refl, (refl, line-first (a .text .now))))
+loop-holds c = let s = c .before .before .before .before .before .before in let a = s .args in (along-first (foldOn (a .page)) (a .book .now) (a .text .now) (cuesIn (readBook (a .book .now))) (a .entries .now) (s .pre .read), (refl, (refl, line-first (a .text .now))))
 
 read-cue-requires : tie.Need-read-cue-requires Inv-loop μ-loop
 read-cue-requires c κs = search needs
@@ -136,16 +136,16 @@ find-cue-requires c κs =
     let short : length (letters k) ≤ 1024 = omega (arith, size k, i .short) in
     let buffer : 1024 ≤ length (l .loop .phrase) = omega (arith, l .loop .inv .1 .0, s .pre .buffer) in
     let tables : 1281 ≤ length (l .loop .scratch) = omega (arith, l .loop .inv .1 .1 .0, s .pre .tables) in
-    ((some, short), (omega (arith, ap length (s .pre .copied), length-map (s .args .text .now) folded, s .pre .small), (buffer, tables)))
+    ((s .pre .known, (some, short)), (omega (arith, ap length (s .pre .copied), length-map (s .args .text .now) (foldOn (s .args .page)), s .pre .small), (buffer, tables)))
 
 enum-known-found : tie.Need-enum-known-found Inv-loop μ-loop
 enum-known-found c = search needs
 
 same-length-4 : tie.Need-same-length-4 Inv-loop μ-loop
-same-length-4 c = let f = c .before .before .before .before .before in f .find-cue .kept .1 .1 .1 .0 ∙ turn (cue-read f) .loop .inv .1 .0
+same-length-4 c = let f = c .before .before .before .before .before in f .find-cue .kept .1 .1 .1 .1 .0 ∙ turn (cue-read f) .loop .inv .1 .0
 
 same-length-5 : tie.Need-same-length-5 Inv-loop μ-loop
-same-length-5 c = let f = c .before .before .before .before .before in f .find-cue .kept .1 .1 .1 .1 .0 ∙ turn (cue-read f) .loop .inv .1 .1 .0
+same-length-5 c = let f = c .before .before .before .before .before in f .find-cue .kept .1 .1 .1 .1 .1 .0 ∙ turn (cue-read f) .loop .inv .1 .1 .0
 
 same-length-6 : tie.Need-same-length-6 Inv-loop μ-loop
 same-length-6 c = kept (turn (cue-read (c .before .before .before .before .before)))
@@ -184,7 +184,7 @@ loop-again c =
     let d = l .loop .inv .0 in
     let there = found-there _ _ (found f) (t .before .found .given .1) in (
       along-next d n (there .0) (this k .end-is) (p .put-entries .ensures .1 ∙ along-put d (n .cue) (there .1)),
-      (f .find-cue .kept .1 .1 .1 .0 ∙ l .loop .inv .1 .0, (f .find-cue .kept .1 .1 .1 .1 .0 ∙ l .loop .inv .1 .1 .0, p .put-entries .ensures .0)),
+      (f .find-cue .kept .1 .1 .1 .1 .0 ∙ l .loop .inv .1 .0, (f .find-cue .kept .1 .1 .1 .1 .1 .0 ∙ l .loop .inv .1 .1 .0, p .put-entries .ensures .0)),
     )
 
 same-length-7 : tie.Need-same-length-7 Inv-loop μ-loop
