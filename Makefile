@@ -10,7 +10,7 @@ VERSION := $(shell sed -n 's/^version = "\(.*\)"$$/\1/p' rust/libretto/Cargo.tom
 
 header = include/libretto.h
 archive = target/staticlib/liblibretto.a
-finder = target/bin/finder
+programs = target/bin/finder target/bin/page_table
 proved := crates.txt $(shell find crates -type f)
 examples := $(patsubst examples/%.c,target/examples/%,$(wildcard examples/*.c))
 
@@ -29,8 +29,8 @@ $(archive): $(proved)
 	rt staticlib libretto
 	@touch $@
 
-$(finder): $(proved)
-	rt check finder
+$(programs): target/bin/%: $(proved)
+	rt check $*
 	@touch $@
 
 install: all libretto.pc.in
@@ -46,12 +46,12 @@ uninstall:
 test:
 	bash .ci/run
 
-rust-test: $(archive) $(finder)
+rust-test: $(archive) $(programs)
 	$(CARGO) test --offline --manifest-path rust/Cargo.toml
 
 examples: $(examples)
 
-target/examples/%: examples/%.c $(header) $(archive)
+target/examples/%: examples/%.c examples/page.h $(header) $(archive)
 	@mkdir -p $(@D)
 	$(CC) -std=c99 -Wall -Wextra -Wpedantic $(CFLAGS) -I include $< $(archive) $(LDFLAGS) -o $@
 
