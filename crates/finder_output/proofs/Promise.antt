@@ -8,7 +8,8 @@ use borrow.Author.Tests.{lt-ltb, le-ltb}
 use Rattle.pieces.specs.Pieces.{joined, putAll, Laid}
 use Rattle.pieces.proofs.Laid.{laid-front}
 use Rattle.finder_lines.specs.Lines.{refusedLine}
-use Rattle.finder_output.specs.Printed.{phraseIn, textIn, answered, printed, outputSize, Printed}
+use Rattle.finder_answer.specs.Answered.{answered, outputSize}
+use Rattle.finder_output.specs.Printed.{phraseIn, textIn, printed, Printed}
 use Rattle.finder_output.proofs.Split.{Split}
 use Rattle.finder_output.proofs.Fits.{printed-fits}
 

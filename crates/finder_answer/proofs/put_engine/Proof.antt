@@ -1,12 +1,12 @@
--- `finder_output::put_engine` meets its contract: what the find gave and left is what the engine's line is made of. Assumes nothing.
+-- `finder_answer::put_engine` meets its contract: what the find gave and left is what the engine's line is made of. Assumes nothing.
 use borrow.Author.Needs.{needs}
 use mathlib.Core.Path.{refl, subst}
 use Prim.Native.Nat.{ℕ}
 use mathlib.Core.List.{List}
 use Rattle.pieces.specs.Pieces.{Laid, putAll}
-use Rattle.finder_output.proofs.Rows.{found-line}
-use Rattle.finder_output.proofs.put_engine.Statement.{statement}
-use Rattle.finder_output.proofs.put_engine.Tie as tie
+use Rattle.finder_answer.proofs.Rows.{found-line}
+use Rattle.finder_answer.proofs.put_engine.Statement.{statement}
+use Rattle.finder_answer.proofs.put_engine.Tie as tie
 
 slice-aggregate-find : tie.Need-slice-aggregate-find
 slice-aggregate-find c = search needs

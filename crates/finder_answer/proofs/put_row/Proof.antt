@@ -1,4 +1,4 @@
--- `finder_output::put_row` meets its contract: each arm puts the line of its row. Assumes nothing.
+-- `finder_answer::put_row` meets its contract: each arm puts the line of its row. Assumes nothing.
 use borrow.Author.Needs.{needs}
 use mathlib.Core.Path.{_≡_}
 use Prim.Native.Nat.{ℕ, _≤_, _<_}
@@ -6,9 +6,9 @@ use native.Mathlib.Omega.{arith}
 use lib.ListN.{length}
 use Rattle.matching.proofs.CaseAnalysis.{any, beyond}
 use Rattle.find.specs.Find.{engineOf}
-use Rattle.finder_output.specs.Printed.{rows}
-use Rattle.finder_output.proofs.put_row.Statement.{statement}
-use Rattle.finder_output.proofs.put_row.Tie as tie
+use Rattle.finder_answer.specs.Answered.{rows}
+use Rattle.finder_answer.proofs.put_row.Statement.{statement}
+use Rattle.finder_answer.proofs.put_row.Tie as tie
 
 -- the call, from the arm for the last row
 abbrev start : tie.At-match-rest → tie.Start

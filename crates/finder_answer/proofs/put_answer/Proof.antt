@@ -1,10 +1,10 @@
--- `finder_output::put_answer` meets its contract: the refusal's line, or those of all engines. Assumes nothing.
+-- `finder_answer::put_answer` meets its contract: the refusal's line, or those of all engines. Assumes nothing.
 use borrow.Author.Needs.{needs}
 use mathlib.Core.Path.{sym, _∙_}
 use native.Mathlib.Omega.{arith}
-use Rattle.finder_output.proofs.Rows.{answered-refused, answered-lines}
-use Rattle.finder_output.proofs.put_answer.Statement.{statement}
-use Rattle.finder_output.proofs.put_answer.Tie as tie
+use Rattle.finder_answer.proofs.Rows.{answered-refused, answered-lines}
+use Rattle.finder_answer.proofs.put_answer.Statement.{statement}
+use Rattle.finder_answer.proofs.put_answer.Tie as tie
 
 refused-requires : tie.Need-refused-requires
 refused-requires c κs = search needs

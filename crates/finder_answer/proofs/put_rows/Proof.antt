@@ -1,13 +1,13 @@
--- `finder_output::put_rows` meets its contract. The loop's invariant: the lines of the rows before this one are laid. Assumes nothing.
+-- `finder_answer::put_rows` meets its contract. The loop's invariant: the lines of the rows before this one are laid. Assumes nothing.
 use mathlib.Core.Path.{_≡_, refl, _∙_}
 use Prim.Native.Nat.{_-_, _≤_}
 use native.Mathlib.Omega.{arith}
 use lib.ListN.{length, take}
 use Rattle.pieces.specs.Pieces.{Laid, putAll}
-use Rattle.finder_output.specs.Printed.{rows, engineLines}
-use Rattle.finder_output.proofs.Rows.{rows-none, rows-more, rows-all}
-use Rattle.finder_output.proofs.put_rows.Statement.{statement}
-use Rattle.finder_output.proofs.put_rows.Tie as tie
+use Rattle.finder_answer.specs.Answered.{rows, engineLines}
+use Rattle.finder_answer.proofs.Rows.{rows-none, rows-more, rows-all}
+use Rattle.finder_answer.proofs.put_rows.Statement.{statement}
+use Rattle.finder_answer.proofs.put_rows.Tie as tie
 
 -- as many rows as the code goes through
 row-count : length rows ≡ 8

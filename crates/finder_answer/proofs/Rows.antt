@@ -17,7 +17,7 @@ use Rattle.pieces.specs.Pieces.{putAll, Laid}
 use Rattle.pieces.proofs.Laid.{laid-none, laid-then}
 use Rattle.finder_lines.specs.Lines.{field, fields, lineOf, refusedLine}
 use Rattle.finder_lines.proofs.Fields.{fields-received}
-use Rattle.finder_output.specs.Printed.{Row, rows, rowAt, engineLine, engineLines, answered}
+use Rattle.finder_answer.specs.Answered.{Row, rows, rowAt, engineLine, engineLines, answered}
 
 -- 2,306 scratch entries are enough for methods 0 to 7
 entries-enough : (method m : ℕ) → method ≤ 7 → m ≤ 1024 → engineOf method .entries m ≤ 2306

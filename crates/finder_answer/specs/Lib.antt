@@ -1,0 +1,2 @@
+-- What the finder program prints for a phrase and a text.
+pub mod Answered
