@@ -17,9 +17,9 @@ use Rattle.naive.specs.Naive.{naive}
 use Rattle.kmp.specs.Kmp.{kmp}
 use Rattle.horspool.specs.Horspool.{horspool}
 use Rattle.sunday.specs.Sunday.{sunday}
-use Rattle.fjs.specs.Fjs.{window, fjs}
-use Rattle.fjs.specs.Moves as fjs-moves
-use Rattle.fjs.specs.Moves.{movesIn, numbers}
+use Rattle.fjs_steps.specs.Fjs.{window, fjs}
+use Rattle.fjs_steps.specs.Moves as fjs-moves
+use Rattle.fjs_steps.specs.Moves.{movesIn, numbers}
 use Rattle.double_window.specs.DoubleWindow.{doubleWindow}
 use Rattle.boyer_moore.specs.BoyerMoore as bm
 use Rattle.boyer_moore.specs.BoyerMoore.{boyerMoore}

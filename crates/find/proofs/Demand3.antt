@@ -8,9 +8,9 @@ use lib.ListN.{length, replicate}
 use Rattle.matching.specs.declared.Finding.{Finding}
 use Rattle.matching.specs.Find.{compared}
 use Rattle.matching.proofs.Find.{found-compared, found-most}
-use Rattle.fjs.specs.Fjs.{fjs}
-use Rattle.fjs.proofs.Bound.{bound}
-use Rattle.fjs.proofs.Aba.{aba, aba-found}
+use Rattle.fjs_steps.specs.Fjs.{fjs}
+use Rattle.fjs_steps.proofs.Bound.{bound}
+use Rattle.fjs_steps.proofs.Aba.{aba, aba-found}
 use Rattle.find.specs.Find.{engineOf, Answered}
 
 pub method-4-exact : {P T scratch list : List ℕ} {r : Finding} {scratch′ list′ : List ℕ} → Answered 4 P T scratch list r scratch′ list′ → r .refusal ≡ 0 → r .comparisons ≡ compared fjs P T

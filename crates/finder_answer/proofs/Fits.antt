@@ -20,7 +20,7 @@ use Rattle.naive.proofs.Sound as naive
 use Rattle.kmp.proofs.Sound as kmp
 use Rattle.horspool.proofs.Sound as horspool
 use Rattle.sunday.proofs.Sound as sunday
-use Rattle.fjs.proofs.Sound as fjs
+use Rattle.fjs_steps.proofs.Sound as fjs
 use Rattle.double_window.proofs.Sound as double
 use Rattle.boyer_moore.proofs.Sound as bm
 use Rattle.improved_fjs.proofs.Sound as improved

@@ -10,7 +10,7 @@ use Rattle.naive.specs.Naive.{naive}
 use Rattle.kmp.specs.Kmp.{kmp}
 use Rattle.horspool.specs.Horspool.{horspool}
 use Rattle.sunday.specs.Sunday.{sunday}
-use Rattle.fjs.specs.Fjs.{fjs}
+use Rattle.fjs_steps.specs.Fjs.{fjs}
 use Rattle.double_window.specs.DoubleWindow.{doubleWindow}
 use Rattle.boyer_moore.specs.BoyerMoore.{boyerMoore}
 use Rattle.improved_fjs.specs.ImprovedFjs.{improvedFjs}

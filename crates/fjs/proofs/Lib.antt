@@ -1,8 +1,4 @@
--- The engine's steps are right, their bound, what aba costs in n letters a, the moves along the run, and what the list of them is like.
-pub mod Sound
-pub mod Bound
-pub mod Aba
-pub mod Moves
-pub mod Follow
+-- The moves along the search, one window of it as its code goes through it, and what the public functions bring to it and make of what it found.
+pub mod Tracked
 pub mod Steps
 pub mod Ready

@@ -1,4 +1,4 @@
--- What `find`, `find_moves` and `nth` bring to the search that they share, from a call that is not refused; the entries that the search reads; and what the finds make of what it found.
+-- What `find`, `find_moves` and `nth` bring to the search that they share, from a call that is not refused, and what the finds make of what it found.
 -- Assumes nothing.
 use mathlib.Core.Path.{_≡_, refl, _∙_}
 use mathlib.Core.Logic.{inl}
@@ -11,17 +11,17 @@ use borrow.Author.Tests.{eq-eqb}
 use Rattle.matching.specs.Received.{received}
 use Rattle.matching.specs.Find.{refusalOf, Found}
 use Rattle.matching.proofs.Occurrences.{occurrences-few}
-use Rattle.matching.proofs.Find.{Within, found-refused, found-accepted}
+use Rattle.matching.proofs.Find.{found-refused, found-accepted}
 use Rattle.matching.proofs.Progress.{Accepted, compared-fits}
-use Rattle.tables.specs.Tables.{Entries}
-use Rattle.tables.proofs.Tables.{first-entries, second-entries, both-received}
+use Rattle.tables.proofs.Tables.{both-received}
 use Rattle.letter_tables.specs.BadCharacter.{sundayEntry}
 use Rattle.border_tables.specs.Kmp.{kmpEntry}
+use Rattle.fjs_steps.specs.Fjs.{fjs, Bounded}
+use Rattle.fjs_steps.specs.Scratch.{Ready}
+use Rattle.fjs_steps.proofs.Sound.{sound}
+use Rattle.fjs_steps.proofs.Bound.{bound}
 use Rattle.fjs.specs.declared.Tally.{Tally}
-use Rattle.fjs.specs.Fjs.{fjs, Bounded}
-use Rattle.fjs.specs.Search.{prepared, Ready, Searched}
-use Rattle.fjs.proofs.Sound.{sound}
-use Rattle.fjs.proofs.Bound.{bound}
+use Rattle.fjs.specs.Search.{prepared, Searched}
 
 -- the scratch after the tables were made, or not, where the call is refused
 module _ {P T scratch scratch′ : List ℕ} (left : scratch′ ≡ prepared P T scratch) where
@@ -43,16 +43,6 @@ module _ {P T scratch scratch′ : List ℕ} (left : scratch′ ≡ prepared P T
   -- a find that is refused
   pub found-none : {list : List ℕ} {number : ℕ} → number ≡ refusalOf fjs P T scratch → (number ≡ 0 → ⊥) → Found fjs P T scratch list (record { refusal = number; total = 0; comparisons = 0 }) scratch′ list
   found-none {list} {number} is some = let f : Found fjs P T scratch list (record { refusal = number; total = 0; comparisons = 0 }) scratch list = found-refused is some in record { answer = f .answer; left = left; listed = f .listed }
-
-module _ {P T scratch : List ℕ} (r : Ready P T scratch) where
-  pub sundays : Entries 0 256 (sundayEntry P) scratch
-  sundays = first-entries 256 (length P + 1) (sundayEntry P) (kmpEntry P) (r .rest) (r .tables)
-
-  pub kmps : Entries 256 (length P + 1) (kmpEntry P) scratch
-  kmps = second-entries 256 (length P + 1) (sundayEntry P) (kmpEntry P) (r .rest) (r .tables)
-
-  pub limits : Within (length P) (length T) (length scratch) (fjs .entries (length P))
-  limits = record { some = r .some; short = r .short; small = r .small; room = kmps .room }
 
 -- a search without a limit, in a call that is not refused: its numbers fit 32 bits, the find keeps its promise, and demand 3's bound is that of the steps
 module _ {P T scratch list list′ noted noted′ : List ℕ} {noting : Bool} {r : Tally} (a : Accepted fjs P T scratch) (s : Searched P T list 0 noted noting r list′ noted′) where

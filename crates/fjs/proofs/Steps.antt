@@ -15,10 +15,11 @@ use Rattle.matching.proofs.Letters.{reach-equal, reach-done, Upward, up-stops, 
 use Rattle.matching.proofs.Progress.{Progress, Over, same-list, over-total, over-compared, over-listed, reported-as, missed-as, reported-more, reported-place, hit-up, miss-up}
 use Rattle.letter_tables.specs.Moves.{sundayMove}
 use Rattle.border_tables.specs.Moves.{kmpMove}
-use Rattle.fjs.specs.Fjs.{sunday, kmp, step, window, fjs}
-use Rattle.fjs.specs.Search.{putMove, Searched}
-use Rattle.fjs.proofs.Sound.{step-end, step-fresh, step-carried, window-end, window-carried, window-fresh}
-use Rattle.fjs.proofs.Moves.{Noted, noted-stop, noted-more, all-counted, all-kept}
+use Rattle.fjs_steps.specs.Fjs.{sunday, kmp, step, window, fjs}
+use Rattle.fjs_steps.specs.Moves.{putMove}
+use Rattle.fjs_steps.proofs.Sound.{step-end, step-fresh, step-carried, window-end, window-carried, window-fresh}
+use Rattle.fjs_steps.proofs.Moves.{Noted, noted-stop, noted-more, all-counted, all-kept}
+use Rattle.fjs.specs.Search.{Searched}
 
 module _ {P T list₀ : List ℕ} {s q total compared : ℕ} {list : List ℕ} (p : Progress fjs P T list₀ (at s q) total compared list) (inside : s + length P ≤ length T) where
   -- nothing is carried, so the state is one that carries nothing

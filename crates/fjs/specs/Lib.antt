@@ -1,5 +1,4 @@
--- The engine's published steps with the value that `Found` is told, the moves, the n-th occurrence, and what the three public functions ask of their shared search.
-pub mod Fjs
-pub mod Moves
+-- What a find with a list of moves gives, the n-th occurrence, and what the three public functions ask of their shared search.
+pub mod Listed
 pub mod Nth
 pub mod Search

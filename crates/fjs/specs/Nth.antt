@@ -7,9 +7,9 @@ use lib.ListN.{getD}
 use Rattle.matching.specs.Occurrences.{occurrences, hasNth}
 use Rattle.matching.specs.Received.{received}
 use Rattle.matching.specs.Find.{accepts, refusalOf}
+use Rattle.fjs_steps.specs.Fjs.{fjs}
 use Rattle.fjs.specs.declared.Place.{Place}
 use Rattle.fjs.specs.declared.Place.the-variants.{Refused, At, Nothing}
-use Rattle.fjs.specs.Fjs.{fjs}
 
 -- the number that document 01 has for each answer: the refusal's own, 0 for a place, 12 for an occurrence that does not exist
 abbrev pub number : Place → ℕ

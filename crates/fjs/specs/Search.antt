@@ -1,33 +1,20 @@
 -- What `find`, `find_moves` and `nth` ask of the search that they share. Not part of any public promise.
 use mathlib.Core.Path.{_≡_}
-use Prim.Native.Nat.{ℕ, _+_, _-_, _*_, _≤_, _<_}
+use Prim.Native.Nat.{ℕ, _+_, _-_, _≤_, _<_}
 use mathlib.Core.Logic.{_⊎_}
 use mathlib.Core.Bool.{Bool, true, cond}
-use mathlib.Core.List.{List, _++_}
-use lib.ListN.{length, getD, set}
-use lib.Dec.{leb}
+use mathlib.Core.List.{List}
+use lib.ListN.{length, getD}
 use Rattle.matching.specs.Occurrences.{occurrences}
 use Rattle.matching.specs.Received.{received}
 use Rattle.matching.specs.Find.{compared, accepts}
+use Rattle.fjs_steps.specs.Fjs.{fjs}
+use Rattle.fjs_steps.specs.Moves.{moves, fitting}
 use Rattle.fjs.specs.declared.Tally.{Tally}
-use Rattle.fjs.specs.Fjs.{fjs}
-use Rattle.fjs.specs.Moves.{moves, fitting}
 
 -- the scratch after the tables were made, or not, where the call is refused
 abbrev pub prepared : List ℕ → List ℕ → List ℕ → List ℕ
 prepared P T scratch = cond (accepts fjs P T scratch) (received scratch (fjs .tables P)) scratch
-
--- the limits of a find are kept, and the tables stand at the scratch's front
-pub record Ready (P T scratch : List ℕ) : Type 0 where
-  pub some : 1 ≤ length P
-  pub short : length P ≤ 1024
-  pub small : length T ≤ 32768
-  pub rest : List ℕ
-  pub tables : scratch ≡ fjs .tables P ++ rest
-
--- a list of moves with the three numbers of a move set at its index, where it has room for all three
-abbrev pub putMove : List ℕ → ℕ → ℕ → ℕ → ℕ → List ℕ
-putMove list index old new rule = cond (leb (3 * index + 3) (length list)) (set (set (set list (3 * index) old) (3 * index + 1) new) (3 * index + 2) rule) list
 
 -- the search ends with the text, or at the occurrence of that ordinal; a limit of 0 is none. It is lent a list of places and a list of moves, and told whether to note the moves
 pub record Searched (P T list : List ℕ) (limit : ℕ) (noted : List ℕ) (noting : Bool) (r : Tally) (list′ noted′ : List ℕ) : Type 0 where

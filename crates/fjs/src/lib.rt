@@ -1,7 +1,6 @@
 // The Franek-Jennings-Smyth engine (source document 001, Algorithm 3): Sunday's move while the last letter differs, KMP's move once letters are equal.
-// It depends on `matching`, and on `tables`, `letter_tables` and `border_tables` for the entries. Beside `find` it offers `nth`, which stops at the occurrence that is wanted, and
-// `find_moves`, which also lists by which rule the window moved.
-// Demand 3 is carried by proofs/Bound.antt (at most 3n - 2m comparisons) and proofs/Aba.antt (aba in n letters a costs 3n - 6).
+// It depends on `fjs_steps` for its steps and demand 3's bound on them, on `matching`, and on `tables`, `letter_tables` and `border_tables` for the entries. Beside `find` it offers
+// `nth`, which stops at the occurrence that is wanted, and `find_moves`, which also lists by which rule the window moved.
 use matching::Finding;
 ghost use mathlib.Core.Path.{_≡_};
 ghost use mathlib.Core.Bool.{cond};
@@ -9,10 +8,12 @@ ghost use Prim.Native.Nat.{_+_, _≤_};
 ghost use lib.ListN.{length};
 ghost use Rattle.matching.specs.Received.{received};
 ghost use Rattle.matching.specs.Find.{refusalOf, Found};
-ghost use Rattle.fjs.specs.Fjs.{fjs, Bounded};
-ghost use Rattle.fjs.specs.Moves.{finding, Listed};
+ghost use Rattle.fjs_steps.specs.Fjs.{fjs, Bounded};
+ghost use Rattle.fjs_steps.specs.Moves.{putMove};
+ghost use Rattle.fjs_steps.specs.Scratch.{Ready};
+ghost use Rattle.fjs.specs.Listed.{finding, Listed};
 ghost use Rattle.fjs.specs.Nth.{Located};
-ghost use Rattle.fjs.specs.Search.{prepared, Ready, putMove, Searched};
+ghost use Rattle.fjs.specs.Search.{prepared, Searched};
 
 // Where the occurrence of an ordinal stands: the refusal of the call, a position, or that there is no such occurrence.
 pub enum Place {

@@ -1,6 +1,6 @@
 // This crate is the C interface: each function is exported under the name that include/libretto.h gives it, and carries the exact contract of what it wraps.
 // `rt staticlib libretto` makes the archive that C and Rust link.
-// It depends on `find`, `fjs`, `late_cuts`, `fold`, `plain`, `cue_book`, `cue_writer` and `resolver` for what it exports, on `cuts` and `cues` for what a cut and a cue are, and on `matching` for a finding and an answer.
+// It depends on `find`, `fjs`, `late_cuts`, `fold`, `plain`, `cue_book`, `cue_writer` and `resolver` for what it exports, on `fjs_steps`, `cuts` and `cues` for what a find by FJS, a cut and a cue are, and on `matching` for a finding and an answer.
 use cue_book::Part;
 use fjs::MovesFinding;
 use fold::Folding;
@@ -10,8 +10,8 @@ use plain::PlainCue;
 use plain::PlainField;
 ghost use mathlib.Core.Path.{_≡_};
 ghost use Rattle.matching.specs.Find.{Found};
-ghost use Rattle.fjs.specs.Fjs.{fjs, Bounded};
-ghost use Rattle.fjs.specs.Moves.{finding, Listed};
+ghost use Rattle.fjs_steps.specs.Fjs.{fjs, Bounded};
+ghost use Rattle.fjs.specs.Listed.{finding, Listed};
 ghost use Rattle.find.specs.Find.{Answered};
 ghost use Rattle.cuts.specs.Cuts.{cut};
 ghost use Rattle.late_cuts.specs.LateCuts.{Relisted};

@@ -16,10 +16,10 @@ use Rattle.matching.specs.Received.{received}
 use Rattle.matching.proofs.CaseAnalysis.{by-test}
 use Rattle.matching.proofs.Received.{received-none, received-three}
 use Rattle.matching.proofs.Find.{none-refused}
+use Rattle.fjs_steps.specs.Fjs.{fjs}
 use Rattle.fjs.specs.declared.Place.{Place}
 use Rattle.fjs.specs.declared.Place.the-variants.{Refused, At, Nothing}
 use Rattle.fjs.proofs.Place as places
-use Rattle.fjs.specs.Fjs.{fjs}
 use Rattle.fjs.specs.Nth.{nthOf, nthAnswer, Located}
 use Rattle.line_column.specs.LineColumn.{lineColumn}
 use Rattle.cues.specs.Cue.{Cue}

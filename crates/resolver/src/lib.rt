@@ -1,5 +1,5 @@
 // The resolver (document 01, "Cue book, folding, lines"; document 02, (iv)): from the cues of a book to place, line and column, as `outcome` defines it.
-// It depends on `cue_fields`, `cues` and `cue_book` for the cues, on `fold`, on `fjs` for the occurrence that a cue names, on `line_column` for the line rule, on `tables` to
+// It depends on `cue_fields`, `cues` and `cue_book` for the cues, on `fold`, on `fjs_steps` and `fjs` for the occurrence that a cue names, on `line_column` for the line rule, on `tables` to
 // clear the scratch, and on `matching` for the laws of lent lists and of occurrences.
 use cues::CueAnswer;
 use fjs::Place;

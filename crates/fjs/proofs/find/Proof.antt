@@ -2,7 +2,7 @@
 use borrow.Author.Needs.{needs}
 use native.Mathlib.Omega.{arith}
 use Rattle.matching.proofs.Progress.{Accepted, accepted}
-use Rattle.fjs.specs.Fjs.{fjs}
+use Rattle.fjs_steps.specs.Fjs.{fjs}
 use Rattle.fjs.proofs.Ready.{ready, found-none, total-fits, looks-fit, found-all, found-bounded}
 use Rattle.fjs.proofs.find.Statement.{statement}
 use Rattle.fjs.proofs.find.Tie as tie

@@ -10,9 +10,10 @@ use borrow.Author.Tests.{eq-eqb, ne-eqb}
 use Rattle.matching.specs.Find.{refusalOf}
 use Rattle.matching.specs.Received.{received}
 use Rattle.matching.proofs.Progress.{Accepted, accepted}
+use Rattle.fjs_steps.specs.Fjs.{fjs}
+use Rattle.fjs_steps.specs.Moves.{moves, fitting}
 use Rattle.fjs.specs.declared.MovesFinding.{MovesFinding}
-use Rattle.fjs.specs.Fjs.{fjs}
-use Rattle.fjs.specs.Moves.{moves, fitting, Listed}
+use Rattle.fjs.specs.Listed.{Listed}
 use Rattle.fjs.proofs.Ready.{ready, found-none, total-fits, looks-fit, found-all, found-bounded}
 use Rattle.fjs.proofs.find_moves.Statement.{statement}
 use Rattle.fjs.proofs.find_moves.Tie as tie

@@ -6,8 +6,8 @@ use Prim.Native.Nat.{_+_, _*_}
 use native.Mathlib.Omega.{arith}
 use lib.ListN.{length, length-set}
 use borrow.Author.Tests.{le-leb, lt-leb}
-use Rattle.fjs.specs.Search.{putMove}
-use Rattle.fjs.proofs.Moves.{put-long}
+use Rattle.fjs_steps.specs.Moves.{putMove}
+use Rattle.fjs_steps.proofs.Moves.{put-long}
 use Rattle.fjs.proofs.note.Statement.{statement}
 use Rattle.fjs.proofs.note.Tie as tie
 

@@ -14,10 +14,10 @@ use Rattle.matching.specs.Find.{refusalOf}
 use Rattle.matching.proofs.CaseAnalysis.{by-test}
 use Rattle.matching.proofs.Occurrences.{occurrences-below}
 use Rattle.matching.proofs.Progress.{Accepted, accepted}
+use Rattle.fjs_steps.specs.Fjs.{fjs}
 use Rattle.fjs.specs.declared.Place.{Place}
 use Rattle.fjs.specs.declared.Place.the-variants.{Refused, At, Nothing}
 use Rattle.fjs.specs.declared.Tally.{Tally}
-use Rattle.fjs.specs.Fjs.{fjs}
 use Rattle.fjs.specs.Nth.{number, placesMeant, nthOf, nthAnswer, Located}
 use Rattle.fjs.specs.Search.{prepared, Searched}
 use Rattle.fjs.proofs.Ready.{ready}

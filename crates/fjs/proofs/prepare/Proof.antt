@@ -4,7 +4,7 @@ use mathlib.Core.Path.{_∙_}
 use borrow.Author.Tests.{eq-eqb, ne-eqb}
 use Rattle.matching.specs.Find.{refusalOf}
 use Rattle.matching.proofs.Progress.{Accepted, accepted}
-use Rattle.fjs.specs.Fjs.{fjs}
+use Rattle.fjs_steps.specs.Fjs.{fjs}
 use Rattle.fjs.proofs.prepare.Statement.{statement}
 use Rattle.fjs.proofs.prepare.Tie as tie
 

@@ -20,11 +20,11 @@ use Rattle.border_tables.specs.Kmp.{kmpEntry}
 use Rattle.border_tables.specs.Moves.{kmpMove}
 use Rattle.border_tables.proofs.Kmp.{kmp-reads}
 use Rattle.border_tables.proofs.Moves.{kmp-next, kmp-goes}
-use Rattle.fjs.specs.Fjs.{fjs}
-use Rattle.fjs.proofs.Sound.{sound}
-use Rattle.fjs.proofs.Moves.{Tracked, tracked-none, tracked-more}
+use Rattle.fjs_steps.specs.Fjs.{fjs}
+use Rattle.fjs_steps.proofs.Sound.{sound}
+use Rattle.fjs_steps.proofs.Scratch.{sundays, kmps, limits}
+use Rattle.fjs.proofs.Tracked.{Tracked, tracked-none, tracked-more}
 use Rattle.fjs.proofs.Steps.{end-differs, end-noted, end-stops, Begun, begun-le, begun-noted, stops, miss, ends, hit, hit-more, hit-place, Under, under-start, under-more, searched-all, searched-one}
-use Rattle.fjs.proofs.Ready.{sundays, kmps, limits}
 use Rattle.fjs.proofs.search.Statement.{statement}
 use Rattle.fjs.proofs.search.Tie as tie
 

@@ -16,8 +16,8 @@ use Rattle.letter_tables.specs.Moves.{sundayMove}
 use Rattle.letter_tables.proofs.BadCharacter.{sundayEntry-pos}
 use Rattle.letter_tables.proofs.Moves.{sunday-on, sunday-stop}
 use Rattle.border_tables.proofs.Moves.{kmp-paid, kmp-pays}
-use Rattle.fjs.specs.Fjs.{window, fjs, Bounded}
-use Rattle.fjs.proofs.Sound.{window-end, window-carried, window-fresh, sound}
+use Rattle.fjs_steps.specs.Fjs.{window, fjs, Bounded}
+use Rattle.fjs_steps.proofs.Sound.{window-end, window-carried, window-fresh, sound}
 
 module _ (P T : List ℕ) (s : ℕ) (inside : s + length P ≤ length T) (some : 1 ≤ length P) where
   paid-sunday : (spent : ℕ) → spent ≤ 3 → Paid 2 spent s (sundayMove P T s)

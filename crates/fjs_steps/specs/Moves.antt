@@ -1,16 +1,12 @@
 -- The moves of a window (document 02, (xi)): they are those of source document 001, Algorithm 3, read off the engine's run. A window that goes on moves, also where the window that
 -- it moves to would pass the text's end and is not looked at; a window that stops, since no letter follows it, does not.
-use mathlib.Core.Path.{_≡_}
-use Prim.Native.Nat.{ℕ, _/_}
+use Prim.Native.Nat.{ℕ, _+_, _*_, _/_}
 use mathlib.Core.Bool.{cond}
 use mathlib.Core.List.{List, [], _∷_, _++_}
-use lib.ListN.{length, take}
-use Rattle.matching.specs.declared.Finding.{Finding}
-use Rattle.matching.specs.Received.{received}
+use lib.ListN.{length, set, take}
+use lib.Dec.{leb}
 use Rattle.matching.specs.Machine.{State, stop, at, Visit, run}
-use Rattle.matching.specs.Find.{accepts}
-use Rattle.fjs.specs.declared.MovesFinding.{MovesFinding}
-use Rattle.fjs.specs.Fjs.{Rule, sunday, kmp, step, window, fjs}
+use Rattle.fjs_steps.specs.Fjs.{Rule, sunday, kmp, step, window}
 
 -- from which start to which, and by which rule
 pub record Move : Type 0 where
@@ -49,13 +45,6 @@ numbers (m ∷ ms) = m .old ∷ m .new ∷ ruleNumber (m .rule) ∷ numbers ms
 abbrev pub fitting : ℕ → List Move → List ℕ
 fitting entries ms = numbers (take (entries / 3) ms)
 
--- ---- what a find with a list of moves gives and leaves
-
--- what it gives as a find
-abbrev pub finding : MovesFinding → Finding
-finding r = record { refusal = r .refusal; total = r .total; comparisons = r .comparisons }
-
--- the full total of moves, and the list of moves as the call leaves it; refused: 0, and the list as before
-pub record Listed (P T scratch list : List ℕ) (r : MovesFinding) (list′ : List ℕ) : Type 0 where
-  pub counted : r .moves ≡ cond (accepts fjs P T scratch) (length (moves P T)) 0
-  pub listed : list′ ≡ cond (accepts fjs P T scratch) (received list (fitting (length list) (moves P T))) list
+-- a list of moves with the three numbers of a move set at its index, where it has room for all three. Not part of any public promise
+abbrev pub putMove : List ℕ → ℕ → ℕ → ℕ → ℕ → List ℕ
+putMove list index old new rule = cond (leb (3 * index + 3) (length list)) (set (set (set list (3 * index) old) (3 * index + 1) new) (3 * index + 2) rule) list

@@ -18,7 +18,7 @@ use Rattle.letter_tables.specs.Moves.{sundayMove}
 use Rattle.border_tables.specs.Moves.{kmpMove}
 use Rattle.letter_tables.proofs.Moves.{sunday-right}
 use Rattle.border_tables.proofs.Moves.{kmp-moves}
-use Rattle.fjs.specs.Fjs.{Step, endEqual, before, ended, fresh, carried, step, window}
+use Rattle.fjs_steps.specs.Fjs.{Step, endEqual, before, ended, fresh, carried, step, window}
 
 -- ---- the step by its cases
 

@@ -10,9 +10,9 @@ use borrow.Author.Tests.{leb-true, leb-false}
 use Rattle.matching.specs.Machine.{State, stop, at, windows, runFrom}
 use Rattle.matching.proofs.CaseAnalysis.{by-test}
 use Rattle.matching.proofs.Machine.{Ahead, Carried, carries-none, windows-on, windows-off, windows-stop, windows-none}
-use Rattle.fjs.specs.Fjs.{Rule, step, window}
-use Rattle.fjs.specs.Moves.{Move, moveTo, movesIn, moves}
-use Rattle.fjs.proofs.Sound.{sound}
+use Rattle.fjs_steps.specs.Fjs.{Rule, step, window}
+use Rattle.fjs_steps.specs.Moves.{Move, moveTo, movesIn, moves}
+use Rattle.fjs_steps.proofs.Sound.{sound}
 
 -- each move is from the start to which the one before it went, or from s, goes on, and is that of a window within the text
 abbrev pub Follows : List ℕ → List ℕ → ℕ → List Move → Type 0

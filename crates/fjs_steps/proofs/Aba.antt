@@ -19,8 +19,8 @@ use Rattle.matching.proofs.Costs.{run-alike}
 use Rattle.tables.specs.Tables.{largest}
 use Rattle.border_tables.specs.Kmp.{border, strong, kmpEntry}
 use Rattle.border_tables.proofs.Moves.{kmp-next}
-use Rattle.fjs.specs.Fjs.{window, fjs}
-use Rattle.fjs.proofs.Sound.{window-fresh}
+use Rattle.fjs_steps.specs.Fjs.{window, fjs}
+use Rattle.fjs_steps.proofs.Sound.{window-fresh}
 
 abbrev pub aba : ℕ → ℕ → List ℕ
 aba a b = a ∷ b ∷ a ∷ []
