@@ -48,10 +48,12 @@ folded-twice c =
     (λ _ e. rw e)
     refl
 
+-- a byte folds to a byte
 pub folded-byte : (c : ℕ) → c < 256 → folded c < 256
 unfolding folded
 folded-byte c h = by-test (λ t. (capital c ≡ t) → cond t (c + 32) c < 256) (capital c) (λ _ e. omega (arith, capital-below c e)) (λ _ e. h) refl
 
+-- a byte below 32 is made of itself alone
 folded-control : (d : ℕ) → d ≤ 31 → (c : ℕ) → eqb (folded c) d ≡ eqb c d
 unfolding folded
 folded-control d low c =
@@ -82,6 +84,7 @@ by-pairs Q (p ∷ ps) f c each other =
     (λ _ e. by-pairs Q ps f c (each .1) (λ none. other (eqb-false c (p .0) e, none)))
     refl
 
+-- a letter that is the first of no pair folds by the other fold
 other-paired : (ps : List (ℕ × ℕ)) (f : ℕ → ℕ) (c : ℕ) → FirstOfNone c ps → paired ps f c ≡ f c
 unfolding FirstOfNone paired
 other-paired [] f c none = refl
@@ -114,7 +117,7 @@ still-none (p ∷ ps) w c none =
     let w′ = both (not (capital (p .0 - 32))) (notMade ps) w in
     (not-made c (p .0) (not-true (capital (p .0 - 32)) (w′ .0)) (none .0), still-none ps (w′ .1) c (none .1))
 
--- what a pair's first letter folds to stays
+-- folding a second time changes nothing
 folded15-twice : (c : ℕ) → folded15 (folded15 c) ≡ folded15 c
 unfolding EachPair notMade folded15
 folded15-twice c =

@@ -25,18 +25,19 @@ folded c = cond (capital c) (c + 32) c
 abbrev pub pairs15 : List (ℕ × ℕ)
 pairs15 = (0xA6, 0xA8) ∷ (0xB4, 0xB8) ∷ (0xBC, 0xBD) ∷ (0xBE, 0xFF) ∷ []
 
--- what a letter folds to by pairs; by another fold where it is the first of none
+-- what a letter folds to by pairs, and by another fold where it is the first of none
 unfoldable pub paired : List (ℕ × ℕ) → (ℕ → ℕ) → ℕ → ℕ
 paired [] f c = f c
 paired (p ∷ ps) f c = cond (eqb c (p .0)) (p .1) (paired ps f c)
 
+-- what a letter folds to: by these pairs, and otherwise as on page 1
 unfoldable pub folded15 : ℕ → ℕ
 unfolding paired folded
 folded15 c = paired pairs15 folded c
 
 -- ---- a page by its number
 
--- whether there is such a page
+-- whether there is such a page: 1 or 15
 unfoldable pub isPage : ℕ → Bool
 isPage page = eqb page 1 || eqb page 15
 
