@@ -57,8 +57,8 @@ struct twin_answer twin_relist(const uint8_t *phrase, size_t m, const uint8_t *t
 
 struct twin_answer twin_read_book(const uint8_t *book, size_t book_len);
 
-/* Folds n letters by a table of 256 into a target of as many. */
-void twin_fold(const uint8_t *restrict table, const uint8_t *restrict text, size_t n, uint8_t *restrict target);
+/* Folds n letters by page 15 into a target of as many. */
+void twin_fold(const uint8_t *restrict text, size_t n, uint8_t *restrict target);
 
 /* Puts a place into the list if it has room, and counts it. */
 static inline void twin_report(struct twin_finding *found, uint32_t *restrict list, size_t list_len, size_t place)

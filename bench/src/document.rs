@@ -257,7 +257,7 @@ fn books(results: &Results) -> String {
          cue's occurrence, and gives line and column too.\n\n{}\n\
          Folding is measured as a resolve of a book without cues: it folds the 32,768 letters into the copy and clears the phrase buffer and the \
          scratch. By page 1 it takes {:.2} µs, which is {:.2} bytes a nanosecond; by page 15, which looks each letter up in a table, {:.2} µs, which is \
-         {:.2}. The letters folded by page 15 alone take {:.2} µs, {:.2} of a loop over the same table in C.\n",
+         {:.2}. The letters folded by page 15 alone take {:.2} µs, {:.2} of a loop over a constant table in C.\n",
         table.markdown(),
         folding.page_1 / 1e3,
         goals::folding_speed(folding.page_1),

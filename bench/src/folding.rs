@@ -1,4 +1,4 @@
-//! Folding a text by each page, and by page 15 beside a loop over the same table in C.
+//! Folding a text by each page, and by page 15 beside a loop over a constant table in C.
 
 use crate::books::Libretto;
 use crate::clock::{rounds, Side};
@@ -8,32 +8,27 @@ use crate::twins::{Build, BUILDS};
 use libretto::{fold_text_raw, resolve_raw, Page};
 use std::hint::black_box;
 
-/// What each letter folds to by page 15, as the C twin is lent it: made from the rule, since what is timed is the loop and not its table.
-pub fn table() -> [u8; 256] {
-    let rule = reference::folding_rule(Page::Latin9.number()).expect("the reference has page 15");
-    std::array::from_fn(|letter| rule(letter as u8))
+/// Ends the program unless this side folds these letters by page 15 as the reference does, and leaves what is past them.
+fn check_side(side: &str, letters: &[u8], fold: impl Fn(&[u8], &mut [u8])) {
+    let [mut due, mut given] = [0, 0].map(|_| vec![7; letters.len() + 9]);
+    reference::fold_text(Page::Latin9.number(), letters, &mut due[..letters.len()]);
+    fold(letters, &mut given[..letters.len()]);
+    assert!(given == due, "{side} and the reference fold {} letters differently by page 15", letters.len());
 }
 
-/// Ends the program unless the library and every build of the twin fold these letters by page 15 as the reference does, and leave what is past them.
-fn check_letters(letters: &[u8], table: &[u8; 256]) {
-    let mut due = vec![7; letters.len() + 9];
-    let answer = reference::fold_text(Page::Latin9.number(), letters, &mut due[..letters.len()]);
-    let mut given = vec![7; due.len()];
-    let raw = fold_text_raw(Page::Latin9.number(), letters, &mut given[..letters.len()]);
-    assert_eq!((raw.refusal, raw.number), answer, "the library folds {} letters by page 15", letters.len());
-    assert!(given == due, "library and reference fold {} letters differently by page 15", letters.len());
-    for build in &BUILDS {
-        let mut given = vec![7; due.len()];
-        build.fold(table, letters, &mut given[..letters.len()]);
-        assert!(given == due, "C and the reference fold {} letters differently by page 15", letters.len());
-    }
+/// Folds by the library, which must not refuse, and must fold all letters.
+fn fold_by_library(letters: &[u8], target: &mut [u8]) {
+    let raw = fold_text_raw(Page::Latin9.number(), letters, target);
+    assert_eq!((raw.refusal, raw.number), (0, letters.len()), "the library folds {} letters by page 15", letters.len());
 }
 
-/// Ends the program unless all sides fold the text, and every letter, alike.
-pub fn check(text: &Libretto, table: &[u8; 256]) {
+/// Ends the program unless the library and every build of the twin fold the text, and every letter, as the reference does.
+pub fn check(text: &Libretto) {
     let every_letter: Vec<u8> = (0..=255).collect();
-    check_letters(&every_letter, table);
-    check_letters(&text.letters, table);
+    for letters in [&every_letter, &text.letters] {
+        check_side("the library", letters, fold_by_library);
+        BUILDS.iter().for_each(|build| check_side("C", letters, |letters, target| build.fold(letters, target)));
+    }
 }
 
 /// The resolver by a page on a book without cues: the text is folded into the copy, and the buffers are cleared.
@@ -53,13 +48,13 @@ pub struct Contest<'a> {
 
 impl<'a> Contest<'a> {
     /// The resolver by both pages, the library's folding of a text by page 15, and its twins.
-    pub fn new(text: &'a Libretto, table: &'a [u8; 256]) -> Contest<'a> {
+    pub fn new(text: &'a Libretto) -> Contest<'a> {
         let text_15 = Side::new(|lent: &mut Lent| {
             black_box(fold_text_raw(Page::Latin9.number(), &text.letters, lent.for_resolver().copy));
         });
         let twin = |build: &'static Build| {
             Side::new(move |lent: &mut Lent| {
-                build.fold(table, &text.letters, black_box(lent.for_resolver().copy));
+                build.fold(&text.letters, black_box(lent.for_resolver().copy));
             })
         };
         let [page_1, page_15] = Page::ALL.map(|page| resolving(page, text));
@@ -91,7 +86,7 @@ pub struct FoldingTimes {
     pub page_15: f64,
     /// The library's folding of a text by page 15.
     pub text_15: f64,
-    /// The best build of the loop in C, over the same table.
+    /// The best build of the loop in C.
     pub twin: f64,
 }
 
@@ -101,14 +96,15 @@ mod tests {
 
     #[test]
     fn all_sides_fold_alike() {
-        check(&Libretto::new(), &table());
+        check(&Libretto::new());
     }
 
     #[test]
-    #[should_panic(expected = "C and the reference fold 256 letters differently by page 15")]
-    fn a_wrong_table_is_found() {
-        let mut wrong = table();
-        wrong[0xbc] = 0xbc;
-        check(&Libretto::new(), &wrong);
+    #[should_panic(expected = "a side that leaves one letter and the reference fold 5 letters differently by page 15")]
+    fn a_wrong_side_is_found() {
+        check_side("a side that leaves one letter", b"c\xbcur.", |letters, target| {
+            fold_by_library(letters, target);
+            target[1] = letters[1];
+        });
     }
 }

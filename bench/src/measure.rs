@@ -147,12 +147,12 @@ fn cuts(lent: &mut Lent) -> Vec<CutResult> {
 }
 
 fn books(lent: &mut Lent) -> (Vec<BookResult>, FoldingTimes) {
-    let (text, table) = (Libretto::new(), folding::table());
+    let text = Libretto::new();
     let books = text.books();
     books.iter().for_each(|book| book.check(&text, lent));
-    folding::check(&text, &table);
+    folding::check(&text);
     let mut contests: Vec<books::Contest> = books.iter().map(|book| books::Contest::new(book, &text)).collect();
-    let mut folding = folding::Contest::new(&text, &table);
+    let mut folding = folding::Contest::new(&text);
     eprintln!("cue books and folding");
     for _ in 0..PASSES {
         contests.iter_mut().for_each(|contest| contest.run(ROUNDS, lent));

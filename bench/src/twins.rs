@@ -41,7 +41,7 @@ type FindMoves = unsafe extern "C" fn(*const u8, usize, *const u8, usize, *mut u
 type Relist =
     unsafe extern "C" fn(*const u8, usize, *const u8, usize, *const u32, usize, usize, usize, *const u8, usize, *mut u32, usize) -> TwinAnswer;
 type ReadBook = unsafe extern "C" fn(*const u8, usize) -> TwinAnswer;
-type Fold = unsafe extern "C" fn(*const u8, *const u8, usize, *mut u8);
+type Fold = unsafe extern "C" fn(*const u8, usize, *mut u8);
 
 /// The twins compiled with one placement of code.
 pub struct Build {
@@ -84,7 +84,7 @@ macro_rules! builds {
                     lent_len: usize,
                 ) -> TwinAnswer;
                 fn $read_book(book: *const u8, book_len: usize) -> TwinAnswer;
-                fn $fold(table: *const u8, text: *const u8, n: usize, target: *mut u8);
+                fn $fold(text: *const u8, n: usize, target: *mut u8);
             )*
         }
 
@@ -228,13 +228,12 @@ impl Build {
         unsafe { (self.read_book)(book.as_ptr(), book.len()) }
     }
 
-    /// The twin of folding by a table.
-    pub fn fold(&self, table: &[u8; 256], text: &[u8], target: &mut [u8]) {
+    /// The twin of folding by page 15.
+    pub fn fold(&self, text: &[u8], target: &mut [u8]) {
         assert!(target.len() >= text.len());
-        // SAFETY: each pointer comes from a slice or an array. The twin reads the text by its own length and the table at any byte's index, of which it
-        // has all 256, and writes as many letters as the assertion found room for. The exclusive borrow keeps the target apart from text and table,
-        // and all borrows outlive the call, which keeps no pointer.
-        unsafe { (self.fold)(table.as_ptr(), text.as_ptr(), text.len(), target.as_mut_ptr()) }
+        // SAFETY: each pointer comes from a slice. The twin reads the text by its own length and writes as many letters as the assertion found room for.
+        // The exclusive borrow keeps the target apart from the text, and both borrows outlive the call, which keeps no pointer.
+        unsafe { (self.fold)(text.as_ptr(), text.len(), target.as_mut_ptr()) }
     }
 }
 
