@@ -168,12 +168,16 @@ page-control page d low c = by-test (λ t. eqb (cond t folded15 folded c) d ≡ 
 pub text-joined : (page : ℕ) (first second : List ℕ) → map (foldOn page) (first ++ second) ≡ map (foldOn page) first ++ map (foldOn page) second
 text-joined page first second = map-append (foldOn page) first second
 
--- what `letters` leaves at the front of a target that is long enough
+-- what `letters` leaves, on a page that there is
+pub letters-made : {page : ℕ} {source target target′ : List ℕ} {r : Folding} → LettersFolded page source target r target′ → isPage page ≡ true → target′ ≡ received target (map (foldOn page) source)
+letters-made f known = f .left ∙ rw known refl
+
+-- and at the front of a target that is long enough
 pub letters-left : {page : ℕ} {source target target′ : List ℕ} {r : Folding} → LettersFolded page source target r target′ → isPage page ≡ true → length source ≤ length target
     → take (length source) target′ ≡ map (foldOn page) source
 letters-left {page} {source} {target} f known h =
     let size : length (map (foldOn page) source) ≡ length source = length-map source (foldOn page) in
-    ap (take (length source)) (f .left ∙ rw known refl)
+    ap (take (length source)) (letters-made f known)
     ∙ ap (λ (n : ℕ). take n (received target (map (foldOn page) source))) (sym size) ∙ received-whole target (map (foldOn page) source) (omega arith)
 
 -- and of what three calls of `letters` leave, in targets that are long enough: that of the joined texts holds what those of the two hold, one after the other

@@ -1,11 +1,10 @@
 -- Demand 2 on the resolver, for what a caller has: a resolve that gives 0 has every cue at the occurrence that it names (`all-out`), one that gives 12 every cue before the named one, whose
 -- occurrence does not exist (`one-missing`); and a text folded beforehand gives the same (`folded-before`). Each is the law of any fold (`law` of `outcome`) for the fold of the call's page
 -- (`page-law`), since that one changes nothing the second time and keeps line ends. Assumes nothing.
-use mathlib.Core.Path.{_≡_, refl, sym, ap, ap₂, _∙_}
+use mathlib.Core.Path.{_≡_, refl, sym, ap, _∙_}
 use Prim.Native.Nat.{ℕ}
 use native.Mathlib.Omega.{arith}
 use mathlib.Core.List.{List, map}
-use lib.ListN.{length}
 use Rattle.matching.specs.Received.{received}
 use Rattle.fold.specs.Fold.{foldOn}
 use Rattle.fold.proofs.Fold.{page-twice, page-control}
@@ -15,7 +14,7 @@ use Rattle.line_column.proofs.Lines.{lines-kept}
 use Rattle.outcome.specs.Outcome.{Call, Outcome}
 use Rattle.outcome.specs.Told.{KeepsLines, AllOut, OneMissing, Law}
 use Rattle.outcome.proofs.Law.{law}
-use Rattle.resolver.specs.Resolver.{call, comesTo, Resolved}
+use Rattle.resolver.specs.Resolver.{call, Resolved}
 
 -- ---- the pages
 

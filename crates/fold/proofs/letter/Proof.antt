@@ -1,6 +1,6 @@
 -- `fold::letter` meets its contract: 14 where there is no such page, and otherwise what the page folds the letter to. Assumes nothing.
 use borrow.Author.Needs.{needs}
-use mathlib.Core.Path.{_≡_, sym, ap, _∙_}
+use mathlib.Core.Path.{_≡_, sym, _∙_}
 use mathlib.Core.Bool.{true, false}
 use borrow.Author.Tests.{not-true, not-false}
 use Rattle.fold.specs.Fold.{isPage, letterAnswer}

@@ -1,6 +1,5 @@
 -- `fold::letters_on_page_1` meets its contract. The loop's invariant: the target has received the first i folded letters (`Filling`). Assumes nothing.
 use borrow.Author.Needs.{needs}
-use mathlib.Core.Path.{_≡_}
 use mathlib.Core.Logic.{⊎-elim}
 use Prim.Native.Nat.{_-_}
 use native.Mathlib.Omega.{arith}

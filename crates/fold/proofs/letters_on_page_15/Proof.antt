@@ -1,5 +1,4 @@
 -- `fold::letters_on_page_15` meets its contract. The loop's invariant: the target has received the first i folded letters (`Filling`). Assumes nothing.
-use mathlib.Core.Path.{_≡_}
 use mathlib.Core.Logic.{⊎-elim}
 use Prim.Native.Nat.{_-_, _<_}
 use native.Mathlib.Omega.{arith}

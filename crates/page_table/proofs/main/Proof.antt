@@ -1,15 +1,13 @@
 -- `page_table::main` is safe and ends: what is printed fits the array, which is more than long enough, so all of it is printed (`all-fit`). Assumes nothing.
 use borrow.Author.Needs.{needs}
-use mathlib.Core.Path.{_≡_, refl, sym, ap, _∙_}
-use mathlib.Core.Bool.{true}
-use mathlib.Core.List.{List, _++_}
+use mathlib.Core.Path.{refl, sym, ap}
+use mathlib.Core.List.{List}
 use Prim.Native.Nat.{ℕ, _≤_}
 use native.Mathlib.Omega.{arith}
 use lib.ListN.{length, drop, replicate, length-append, length-replicate}
 use lib.Seq.{length-take-le}
-use lib.Dec.{leb}
 use borrow.Author.Tests.{leb-true}
-use Rattle.pieces.specs.Pieces.{joined, putAll, Laid}
+use Rattle.pieces.specs.Pieces.{joined}
 use Rattle.pieces.proofs.Laid.{laid-front}
 use Rattle.page_table.specs.Entries.{entries}
 use Rattle.page_table.proofs.main.Statement.{statement}

@@ -1,6 +1,5 @@
 -- `page_table::put_after` meets its contract: byte 10, or a space. Assumes nothing.
 use borrow.Author.Needs.{needs}
-use mathlib.Core.Path.{_≡_, refl}
 use Prim.Native.Nat.{_%_}
 use borrow.Author.Tests.{eq-eqb, ne-eqb}
 use Rattle.page_table.specs.Entries.{after}

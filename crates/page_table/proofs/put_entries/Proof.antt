@@ -1,6 +1,6 @@
 -- `page_table::put_entries` meets its contract. The loop's invariant: the entries of the letters before this one are laid. Assumes nothing.
 use borrow.Author.Needs.{needs}
-use mathlib.Core.Path.{_≡_, refl, sym, ap, _∙_}
+use mathlib.Core.Path.{_≡_, refl, sym, _∙_}
 use Prim.Native.Nat.{ℕ, _+_, _-_, _≤_}
 use native.Mathlib.Omega.{arith}
 use native.Mathlib.Numerals.{add-one}
@@ -9,7 +9,7 @@ use lib.ListN.{length}
 use Rattle.fold.specs.Fold.{folded15}
 use Rattle.finder_lines.specs.Lines.{decimal}
 use Rattle.pieces.specs.Pieces.{put, putAll, Laid}
-use Rattle.pieces.proofs.Laid.{length-put, laid-none, laid-one, laid-cons, laid-then}
+use Rattle.pieces.proofs.Laid.{laid-none, laid-one, laid-cons, laid-then}
 use Rattle.page_table.specs.Entries.{after, entries}
 use Rattle.page_table.proofs.put_entries.Statement.{statement}
 use Rattle.page_table.proofs.put_entries.Tie as tie

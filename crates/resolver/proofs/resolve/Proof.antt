@@ -1,14 +1,13 @@
 -- `resolver::resolve` meets its contract: the tests in their order, then the text folded, the cues resolved, and the work buffers cleared. Assumes nothing.
 use borrow.Author.Needs.{needs}
-use mathlib.Core.Path.{_≡_, refl, sym, ap, _∙_}
+use mathlib.Core.Path.{_≡_, sym, ap, _∙_}
 use mathlib.Core.List.{List, _++_, map}
 use Prim.Native.Nat.{ℕ, _*_, _≤_}
 use native.Mathlib.Omega.{arith}
 use lib.ListN.{length, take, drop, replicate, length-map}
-use Rattle.matching.specs.Received.{received}
 use Rattle.matching.proofs.Received.{received-front}
 use Rattle.fold.specs.Fold.{foldOn}
-use Rattle.fold.proofs.Fold.{letters-left}
+use Rattle.fold.proofs.Fold.{letters-made, letters-left}
 use Rattle.matching.specs.declared.Answer.{Answer}
 use Rattle.cue_book.specs.Reading.{cues, readBook, numberOf, cuesIn}
 use Rattle.cue_book.proofs.Books.{accepted-book}
@@ -78,8 +77,7 @@ module _ (l : tie.After-letters) where
   copied : l .letters .last .1 .1 .0 ≡ values ++ drop (length text) copy
   copied =
       let size = length-map text (foldOn (entry .args .page)) in
-      let left : l .letters .last .1 .1 .0 ≡ received copy values = l .letters .ensures .left ∙ rw (lent .known) refl in
-      left ∙ received-front copy values (omega (arith, size, lent .whole)) ∙ ap (λ (k : ℕ). values ++ drop k copy) size
+      letters-made (l .letters .ensures) (lent .known) ∙ received-front copy values (omega (arith, size, lent .whole)) ∙ ap (λ (k : ℕ). values ++ drop k copy) size
 
   held : take (length text) (l .letters .last .1 .1 .0) ≡ values
   held = letters-left (l .letters .ensures) (lent .known) (lent .whole)
