@@ -14,10 +14,6 @@ Inv-loop source target₀ end i₀ target i = Filling folded source target₀ en
 abbrev μ-loop : tie.MeasureT-loop
 μ-loop source target₀ end i₀ target i = end - i
 
--- the call, from the loop
-abbrev start : tie.At-loop Inv-loop μ-loop → tie.Start Inv-loop μ-loop
-start l = l .before .before .before .before
-
 loop-holds : tie.Need-loop-holds Inv-loop μ-loop
 loop-holds c = let a = c .before .before .before .args in filling-first folded (a .source .now) (a .target .now) (⊎-elim (λ w. omega arith) (λ w. omega arith) (c .if1 .came))
 
