@@ -1,4 +1,4 @@
--- Laws of folding, on each page: folding twice changes nothing, it makes no byte below 32 and loses none, and folding two joined texts is joining the folded ones. Assumes nothing.
+-- Laws of folding, on each page: folding twice changes nothing, it makes no byte below 32 and loses none, a byte folds to a byte, and folding two joined texts is joining the folded ones. Assumes nothing.
 use mathlib.Core.Path.{_≡_, refl, sym, ap, subst, _∙_}
 use mathlib.Core.Logic.{_⊎_, inl, inr, ⊎-elim}
 use Prim.Native.Nat.{ℕ, _+_, _-_, _≤_, _<_}
@@ -142,6 +142,11 @@ folded15-control : (d : ℕ) → d ≤ 31 → (c : ℕ) → eqb (folded15 c) d �
 unfolding noControl folded15
 folded15-control d low c = by-pairs (λ c x. eqb x d ≡ eqb c d) pairs15 folded c (pairs-control d low pairs15 refl) (λ none. folded-control d low c)
 
+-- a byte folds to a byte
+folded15-byte : (c : ℕ) → c < 256 → folded15 c < 256
+unfolding EachPair folded15
+folded15-byte c h = by-pairs (λ c x. c < 256 → x < 256) pairs15 folded c ((λ _. omega arith), ((λ _. omega arith), ((λ _. omega arith), ((λ _. omega arith), tt)))) (λ none b. folded-byte c b) h
+
 -- ---- a page by its number
 
 pub on-15 : {page : ℕ} → page ≡ 15 → foldOn page ≡ folded15
@@ -161,6 +166,11 @@ page-twice page c = by-test (λ t. cond t folded15 folded (cond t folded15 folde
 pub page-control : (page d : ℕ) → d ≤ 31 → (c : ℕ) → eqb (foldOn page c) d ≡ eqb c d
 unfolding foldOn
 page-control page d low c = by-test (λ t. eqb (cond t folded15 folded c) d ≡ eqb c d) (eqb page 15) (λ _. folded15-control d low c) (λ _. folded-control d low c)
+
+-- a byte folds to a byte
+pub page-byte : (page c : ℕ) → c < 256 → foldOn page c < 256
+unfolding foldOn
+page-byte page c h = by-test (λ t. cond t folded15 folded c < 256) (eqb page 15) (λ _. folded15-byte c h) (λ _. folded-byte c h)
 
 -- ---- acts joined (document 02, (ix)), on each page
 

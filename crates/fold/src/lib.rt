@@ -27,7 +27,7 @@ pub fn is_page(page: u32) -> bool
 }
 
 // One letter on page 1: 0x20 is added to 0x41 to 0x5A, and to 0xC0 to 0xDE except 0xD7; every other letter stays.
-fn on_page_1(byte: u8) -> u8
+pub fn on_page_1(byte: u8) -> u8
     ensures { λ r. ⌜ r ≡ folded byte ⌝ }
 {
     if (0x41 <= byte && byte <= 0x5A) || (0xC0 <= byte && byte <= 0xDE && byte != 0xD7) {
@@ -37,7 +37,7 @@ fn on_page_1(byte: u8) -> u8
 }
 
 // One letter on page 15, by its table.
-fn on_page_15(byte: u8) -> u8
+pub fn on_page_15(byte: u8) -> u8
     ensures { λ r. ⌜ r ≡ folded15 byte ⌝ }
 {
     PAGE_15[byte as usize]
