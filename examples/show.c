@@ -33,7 +33,6 @@ static size_t cues_len;
 static uint8_t folded_text[LIBRETTO_TEXT_MAX], folded_book[BOOK_ROOM];
 
 /* Lent to the library: it allocates nothing, and here is as much as any libretto and any book need. */
-static uint8_t phrase_buffer[LIBRETTO_PHRASE_BUFFER];
 static uint16_t scratch[LIBRETTO_SCRATCH_RESOLVER];
 static uint32_t entries[LIBRETTO_CUES_MAX * LIBRETTO_CUE_ENTRIES];
 static uint32_t list[LIBRETTO_TEXT_MAX];
@@ -111,10 +110,10 @@ static void note_cues(void)
     }
 }
 
-static libretto_answer resolve(void)
+static libretto_resolving resolve(void)
 {
-    return libretto_resolve(page, book, book_len, text, text_len, folded_text, sizeof folded_text, phrase_buffer, LIBRETTO_PHRASE_BUFFER, scratch,
-                            LIBRETTO_SCRATCH_RESOLVER, entries, sizeof entries / sizeof *entries);
+    return libretto_resolve(page, book, book_len, text, text_len, folded_text, sizeof folded_text, scratch, LIBRETTO_SCRATCH_RESOLVER, entries,
+                            sizeof entries / sizeof *entries);
 }
 
 /* Lists all places of a cue's folded phrase in the folded text, which the resolver has left in its copy; gives their number. */
@@ -123,7 +122,7 @@ static uint32_t list_refrain(const libretto_cue *cue)
     libretto_finding found = libretto_find(LIBRETTO_FJS, folded_book + cue->phrase_start, cue->phrase_len, folded_text, text_len, scratch,
                                            LIBRETTO_SCRATCH_RESOLVER, list, LIBRETTO_TEXT_MAX);
 
-    /* The resolver has searched for this phrase in this text with this scratch before. */
+    /* The resolver has searched for this phrase in this text before, and its scratch is longer than any find needs. */
     assert(found.refusal == LIBRETTO_OK);
     return found.total;
 }
@@ -149,14 +148,14 @@ static const char *words(uint32_t refusal)
 }
 
 /* Tells why the text, or a cue of the book, was refused, and of a missing occurrence also which one and how many there are. */
-static int refuse(const char *text_path, const char *book_path, libretto_answer answer)
+static int refuse(const char *text_path, const char *book_path, uint32_t refusal, uint32_t number)
 {
-    if (answer.refusal == LIBRETTO_LONG_TEXT)
-        fprintf(stderr, "%s: %s", text_path, words(answer.refusal));
+    if (refusal == LIBRETTO_LONG_TEXT)
+        fprintf(stderr, "%s: %s", text_path, words(refusal));
     else
-        fprintf(stderr, "%s: cue %u: %s", book_path, (unsigned)answer.number, words(answer.refusal));
-    if (answer.refusal == LIBRETTO_NO_OCCURRENCE) {
-        const libretto_cue *cue = &cues[answer.number];
+        fprintf(stderr, "%s: cue %u: %s", book_path, (unsigned)number, words(refusal));
+    if (refusal == LIBRETTO_NO_OCCURRENCE) {
+        const libretto_cue *cue = &cues[number];
         fprintf(stderr, ": ordinal %u of ", (unsigned)cue->ordinal);
         print_phrase(stderr, cue);
         fprintf(stderr, ", total %u", (unsigned)list_refrain(cue));
@@ -223,11 +222,11 @@ int main(int argc, char **argv)
 
     libretto_answer read = libretto_read_book(book, book_len);
     if (read.refusal != LIBRETTO_OK)
-        return refuse(text_path, book_path, read);
+        return refuse(text_path, book_path, read.refusal, read.number);
     note_cues();
-    libretto_answer resolved = resolve();
+    libretto_resolving resolved = resolve();
     if (resolved.refusal != LIBRETTO_OK)
-        return refuse(text_path, book_path, resolved);
+        return refuse(text_path, book_path, resolved.refusal, resolved.number);
 
     print_cues();
     printf("\n");

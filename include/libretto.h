@@ -50,10 +50,8 @@ enum libretto_method {
 #define LIBRETTO_ORDINAL_MAX 65535
 #define LIBRETTO_CUE_MAX 1235
 
-/* The memory that the resolver needs besides a text copy as long as the text: scratch entries, bytes of the phrase buffer, and entries for each
- * cue. */
-#define LIBRETTO_SCRATCH_RESOLVER ((size_t)1281)
-#define LIBRETTO_PHRASE_BUFFER ((size_t)1024)
+/* The memory that the resolver needs besides a text copy as long as the text: scratch entries, the same for all calls, and entries for each cue. */
+#define LIBRETTO_SCRATCH_RESOLVER ((size_t)65535)
 #define LIBRETTO_CUE_ENTRIES ((size_t)3)
 
 /* The pages that letters are folded by, each a standard's set of letters. ISO 8859-15 is what French and Finnish texts need: it has the euro sign and
@@ -72,7 +70,7 @@ enum libretto_refusal {
     LIBRETTO_LONG_PHRASE = 3,    /* the phrase has more than 1,024 bytes */
     LIBRETTO_LONG_TEXT = 4,      /* the text, or the new text of a cut, has more than 32,768 bytes */
     LIBRETTO_SHORT_SCRATCH = 5,  /* the scratch has fewer entries than the method or the resolver needs */
-    LIBRETTO_SHORT_BUFFER = 6,   /* the resolver's text copy is shorter than the text, or its phrase buffer has fewer than 1,024 bytes */
+    LIBRETTO_SHORT_BUFFER = 6,   /* the resolver's text copy is shorter than the text */
     LIBRETTO_CUT_FIELD = 7,      /* the book ends inside a field */
     LIBRETTO_WRONG_TAG = 8,      /* a field's tag is not the one due */
     LIBRETTO_BAD_FIELD = 9,      /* a field's length is not allowed, or an ordinal is 0 or, to be written, above 65,535 */
@@ -226,26 +224,36 @@ libretto_part libretto_title(const uint8_t *book, size_t book_len, uint32_t cue)
 libretto_answer libretto_write_cue(uint8_t *buffer, size_t buffer_len, const uint8_t *phrase, size_t phrase_len, uint32_t ordinal,
                                    const uint8_t *title, size_t title_len);
 
+/* What the resolver gives back: a refusal or 0, the number of cues or the index of the refused one, and the letters of the text read; a refused call
+ * gives 0 for the last, except where a cue's occurrence does not exist (12). */
+typedef struct {
+    uint32_t refusal, number, reads;
+} libretto_resolving;
+
 /* Finds the place of each cue of a book in the text: that of the occurrence which the cue's ordinal counts, from 1, of its folded phrase in the
  * folded text, overlapping ones included. Both are folded by the page. A text that was folded by it beforehand gives the same places, lines and
  * columns.
  *
- * It gives 0 and the number of cues. Each cue's three entries are then its place, counted from 0, its line and its column. A line ends at byte 10,
- * at byte 13, or at the pair 13 10, which is one ending. The line is 1 plus the endings wholly before the place; the column is 1 plus the bytes
- * between the last of them, or the text's start, and the place. At a place between the bytes of a pair the pair has not ended yet. The copy's first
- * text_len bytes are the folded text; phrase buffer and scratch are 0 throughout, however long they are; the copy's bytes and the entries past those
- * written keep their values. What the lent memory held before plays no part.
+ * The cues are resolved in groups: consecutive cues, as many as fit into 64 cues and 4,096 phrase bytes. The phrases of a group are found together, by
+ * one walk over the text that reads each of its letters once. So the reads are text_len times the groups.
  *
- * It is refused for a text of more than 32,768 bytes (4), a scratch of fewer than 1,281 entries (5), a page that is neither 1 nor 15 (14), a copy
- * shorter than the text or a phrase buffer of fewer than 1,024 bytes (6), and fewer than 3 entries for each cue (11), all with 0 as the number, in
- * this order; and for a book that is refused as a whole, with the answer of libretto_read_book, which comes between 6 and 11. These leave all as
- * before. If a cue's occurrence does not exist, the answer is 12 and the first such cue's index from 0: the entries of earlier cues are written, those
- * of this cue and the later ones keep their values, and copy, phrase buffer and scratch are as after success.
+ * It gives 0, the number of cues and the reads. Each cue's three entries are then its place, counted from 0, its line and its column. A line ends at
+ * byte 10, at byte 13, or at the pair 13 10, which is one ending. The line is 1 plus the endings wholly before the place; the column is 1 plus the
+ * bytes between the last of them, or the text's start, and the place. At a place between the bytes of a pair the pair has not ended yet. The copy's
+ * first text_len bytes are the folded text; the scratch is 0 throughout, however long it is; the copy's bytes and the entries past those written keep
+ * their values. What the lent memory held before plays no part. A scratch longer than the needed one is used too, for more rows of a group's table,
+ * which changes nothing but the time.
  *
- * Copy, phrase buffer, scratch and entries must not overlap each other or the book or the text. */
-libretto_answer libretto_resolve(uint32_t page, const uint8_t *book, size_t book_len, const uint8_t *text, size_t text_len, uint8_t *copy,
-                                 size_t copy_len, uint8_t *phrase, size_t phrase_len, uint16_t *scratch, size_t scratch_len,
-                                 uint32_t *entries, size_t entries_len);
+ * It is refused for a text of more than 32,768 bytes (4), a scratch of fewer than 65,535 entries (5), a page that is neither 1 nor 15 (14), a copy
+ * shorter than the text (6), and fewer than 3 entries for each cue (11), all with 0 as the number, in this order; and for a book that is refused as a
+ * whole, with the answer of libretto_read_book, which comes between 6 and 11. These give 0 as the reads and leave all as before. If a cue's occurrence
+ * does not exist, the answer is 12, the first such cue's index from 0, and text_len times the groups up to this cue's own, which is included: the
+ * entries of earlier cues are written, those of this cue and the later ones keep their values, and copy and scratch are as after success.
+ *
+ * Copy, scratch and entries must not overlap each other or the book or the text. The call also works in 2,304 bytes of the stack, and in 256 more by
+ * page 15. */
+libretto_resolving libretto_resolve(uint32_t page, const uint8_t *book, size_t book_len, const uint8_t *text, size_t text_len, uint8_t *copy,
+                                    size_t copy_len, uint16_t *scratch, size_t scratch_len, uint32_t *entries, size_t entries_len);
 
 #ifdef __cplusplus
 }

@@ -1,8 +1,9 @@
--- The starred cases of document 01, "Refrains to try", the cases that document 02, (ii), (iv) and (x), names, the moves of an example run, and late cuts: one table, and what it means for a row to hold.
-use Prim.Native.Nat.{ℕ, suc, _-_}
+-- The starred cases of document 01, "Refrains to try", the cases that document 02, (ii), (iv) and (x), names, the moves of an example run, late cuts, phrases looked for
+-- together, and groups of cues at their limits: one table, and what it means for a row to hold.
+use Prim.Native.Nat.{ℕ, zero, suc, _-_}
 use mathlib.Core.Bool.{Bool, true, false, cond, _&&_}
-use mathlib.Core.List.{List, [], _∷_, _++_}
-use lib.ListN.{length}
+use mathlib.Core.List.{List, [], _∷_, _++_, map}
+use lib.ListN.{length, replicate}
 use lib.Dec.{eqb}
 use Rattle.matching.specs.Occurrences.{same, occurrences}
 use Rattle.matching.specs.Machine.{run, runFrom, positionsIn}
@@ -28,10 +29,14 @@ use Rattle.improved_fjs.specs.ImprovedFjs.{improvedFjs}
 use Rattle.cuts.specs.Cuts.{cut, newText}
 use Rattle.late_cuts.specs.LateCuts.{relisted}
 use Rattle.fold.specs.Fold.{foldOn, letterAnswer}
+use Rattle.phrases.specs.Phrases as phrases
+use Rattle.phrases.specs.Phrases.{endings}
+use Rattle.phrases.specs.States.{state, step}
+use Rattle.phrases.specs.Counts.{counts}
 use Rattle.cues.specs.Cue.{Cue, cueWith}
 use Rattle.cue_book.specs.Book.{bookBytes}
 use Rattle.cue_book.specs.Reading.{Reading, refused, cues, readBook}
-use Rattle.outcome.specs.Outcome.{Outcome, outcome}
+use Rattle.outcome.specs.Outcome.{numberedFrom, chosen, groups, Resolution, resolution, outcome}
 
 -- a row: what is asked, and the answer that the document gives
 pub data Case : Type 0 where
@@ -56,8 +61,16 @@ pub data Case : Type 0 where
   fold : ℕ → ℕ → ℕ → ℕ → Case
   -- a book's bytes, and the cues that it reads as
   book : List ℕ → List Cue → Case
-  -- a page, a book and a text, the two numbers that resolving gives back, and the entries written; the memory lent is just enough for one cue
-  resolve : ℕ → List ℕ → List ℕ → ℕ → ℕ → List ℕ → Case
+  -- a page, a book and a text, the three numbers that resolving gives back, and the entries written; the memory lent is just enough for one cue
+  resolve : ℕ → List ℕ → List ℕ → ℕ → ℕ → ℕ → List ℕ → Case
+  -- phrases and a text, and at each letter the number of the phrases that end there, by what was read and by the states' steps
+  ended : List (List ℕ) → List ℕ → List ℕ → Case
+  -- phrases, a text and an ordinal for each phrase: what is left of the ordinals, and the places, where 9 stood before
+  counted : List (List ℕ) → List ℕ → List ℕ → List ℕ → List ℕ → Case
+  -- the groups of cues by the lengths of their phrases: so many cues of each length, and how many cues each group has
+  grouping : List (ℕ × ℕ) → List ℕ → Case
+  -- a text, and cues one after another as they are chosen from a book, by page 1's fold: the three numbers and the entries that come of them
+  judged : List ℕ → List Cue → ℕ → ℕ → ℕ → List ℕ → Case
 
 -- the entry given to a letter, or the entry of the others
 unfoldable pub given : List ℕ → List ℕ → ℕ → ℕ → ℕ
@@ -84,14 +97,24 @@ unfolding sameCues
 readsAs (refused number index) expected = false
 readsAs (cues cs) expected = sameCues cs expected
 
--- an outcome with these two numbers and these entries
-unfoldable pub comesTo : Outcome → ℕ → ℕ → List ℕ → Bool
+-- a resolution with these three numbers and these entries
+unfoldable pub comesTo : Resolution → ℕ → ℕ → ℕ → List ℕ → Bool
 unfolding same
-comesTo o refusal number entries = eqb (o .resolution .refusal) refusal && eqb (o .resolution .number) number && same (o .resolution .written) entries
+comesTo o refusal number reads entries = eqb (o .refusal) refusal && eqb (o .number) number && eqb (o .reads) reads && same (o .written) entries
+
+-- some numbers, so many times
+unfoldable pub times : ℕ → List ℕ → List ℕ
+times zero l = []
+times (suc k) l = l ++ times k l
+
+-- cues with phrases of these lengths, so many of each
+unfoldable pub cuesOfLengths : List (ℕ × ℕ) → List Cue
+cuesOfLengths [] = []
+cuesOfLengths (n ∷ ns) = replicate (n .0) (cueWith (replicate (n .1) 97) 1 []) ++ cuesOfLengths ns
 
 -- a row holds: the definitions give its answer
 unfoldable pub holds : Case → Bool
-unfolding same tabulate lastIn gap widest widestAt kmpEntry maxShift shift given movesFrom occurrences runFrom positionsIn compared window movesIn numbers bm.window improved.window relisted letterAnswer readsAs readBook bookBytes comesTo outcome
+unfolding same tabulate lastIn gap widest widestAt kmpEntry maxShift shift given movesFrom occurrences runFrom positionsIn compared window movesIn numbers bm.window improved.window relisted letterAnswer readsAs readBook bookBytes comesTo outcome resolution numberedFrom groups cuesOfLengths endings state phrases.numbers counts
 holds (kmpEntries P entries moves) = same (kmpTable P) entries && same (movesFrom 0 (kmpTable P)) moves
 holds (sundayEntries P letters entries others) = same (sundayTable P) (tabulate 256 (given letters entries others))
 holds (horspoolEntries P letters entries others) = same (horspoolTable P) (tabulate 256 (given letters entries others))
@@ -103,7 +126,14 @@ holds (windowMoves P T entries) = same (numbers (fjs-moves.moves P T)) entries
 holds (lateCut P T list start end letters places own) = same (relisted P T list (cut start end letters)) places && same (occurrences P (newText T (cut start end letters))) own
 holds (fold page letter refusal number) = eqb (letterAnswer page letter .refusal) refusal && eqb (letterAnswer page letter .number) number
 holds (book bytes cs) = readsAs (readBook bytes) cs && same (bookBytes cs) bytes
-holds (resolve page bytes T refusal number entries) = comesTo (outcome (foldOn page) (record { page = page; text = T; copy = length T; phrase = 1024; scratch = 1281; entries = 3 }) (readBook bytes)) refusal number entries
+holds (resolve page bytes T refusal number reads entries) =
+    comesTo (outcome (foldOn page) (record { page = page; text = T; copy = length T; scratch = 65535; entries = 3 }) (readBook bytes) .resolution) refusal number reads entries
+holds (ended ps T es) = same (endings ps [] T) es && same (phrases.numbers (step ps) [] T) es
+holds (counted ps T ordinals left places) =
+    let c = counts 0 (map length ps) (endings ps [] T) (record { left = ordinals; place = replicate (length ps) 9 }) in
+    same (c .left) left && same (c .place) places
+holds (grouping lengths sizes) = same (map length (groups (cuesOfLengths lengths))) sizes
+holds (judged T cs refusal number reads entries) = comesTo (resolution (foldOn 1) T (chosen cs)) refusal number reads entries
 
 -- every row holds
 unfoldable pub allHold : List Case → Bool
@@ -166,8 +196,16 @@ laNo = 0x01 ∷ 0x00 ∷ 0x02 ∷ 0x6C ∷ 0x61 ∷ 0x02 ∷ 0x00 ∷ 0x02 ∷ 0
 abbrev oe : List ℕ
 oe = 0x01 ∷ 0x00 ∷ 0x01 ∷ 0xBC ∷ 0x02 ∷ 0x00 ∷ 0x02 ∷ 0x00 ∷ 0x01 ∷ 0x03 ∷ 0x00 ∷ 0x00 ∷ []
 
+-- Aho and Corasick's example: he, she, his and hers; ushers
+abbrev heSheHisHers : List (List ℕ)
+heSheHisHers = (104 ∷ 101 ∷ []) ∷ (115 ∷ 104 ∷ 101 ∷ []) ∷ (104 ∷ 105 ∷ 115 ∷ []) ∷ (104 ∷ 101 ∷ 114 ∷ 115 ∷ []) ∷ []
+
+abbrev ushers : List ℕ
+ushers = 117 ∷ 115 ∷ 104 ∷ 101 ∷ 114 ∷ 115 ∷ []
+
 -- the table
 unfoldable pub cases : List Case
+unfolding times
 cases =
     kmpEntries abaaca (0 ∷ 1 ∷ 0 ∷ 2 ∷ 2 ∷ 0 ∷ 2 ∷ []) (1 ∷ 1 ∷ 3 ∷ 2 ∷ 3 ∷ 6 ∷ 5 ∷ [])
     ∷ sundayEntries abaaca abc (1 ∷ 5 ∷ 2 ∷ []) 7
@@ -225,9 +263,26 @@ cases =
     ∷ fold 2 0xC9 14 0
     ∷ fold 16 0xC9 14 0
     ∷ book laNo (cueWith la 2 (78 ∷ 111 ∷ []) ∷ [])
-    ∷ resolve 1 laNo (la ++ 10 ∷ la) 0 1 (3 ∷ 2 ∷ 1 ∷ [])
-    ∷ resolve 1 laNo la 12 0 []
-    ∷ resolve 15 oe (la ++ 0xBD ∷ []) 0 1 (2 ∷ 1 ∷ 3 ∷ [])
-    ∷ resolve 1 oe (la ++ 0xBD ∷ []) 12 0 []
-    ∷ resolve 0 oe (la ++ 0xBD ∷ []) 14 0 []
+    ∷ resolve 1 laNo (la ++ 10 ∷ la) 0 1 5 (3 ∷ 2 ∷ 1 ∷ [])
+    ∷ resolve 1 laNo la 12 0 2 []
+    ∷ resolve 15 oe (la ++ 0xBD ∷ []) 0 1 3 (2 ∷ 1 ∷ 3 ∷ [])
+    ∷ resolve 1 oe (la ++ 0xBD ∷ []) 12 0 3 []
+    ∷ resolve 0 oe (la ++ 0xBD ∷ []) 14 0 0 []
+    ∷ resolve 1 [] la 0 0 0 []
+    ∷ ended heSheHisHers ushers (0 ∷ 0 ∷ 0 ∷ 3 ∷ 0 ∷ 8 ∷ [])
+    ∷ ended (wordA ∷ aba ∷ wordA ∷ []) (aba ++ aba) (5 ∷ 0 ∷ 7 ∷ 5 ∷ 0 ∷ 7 ∷ [])
+    ∷ counted heSheHisHers ushers (1 ∷ 1 ∷ 1 ∷ 1 ∷ []) (0 ∷ 0 ∷ 1 ∷ 0 ∷ []) (2 ∷ 1 ∷ 9 ∷ 2 ∷ [])
+    ∷ counted (wordA ∷ aba ∷ wordA ∷ []) (aba ++ aba) (1 ∷ 2 ∷ 4 ∷ []) (0 ∷ 0 ∷ 0 ∷ []) (0 ∷ 3 ∷ 5 ∷ [])
+    ∷ grouping [] []
+    ∷ grouping ((1, 1) ∷ []) (1 ∷ [])
+    ∷ grouping ((64, 1) ∷ []) (64 ∷ [])
+    ∷ grouping ((65, 1) ∷ []) (64 ∷ 1 ∷ [])
+    ∷ grouping ((129, 1) ∷ []) (64 ∷ 64 ∷ 1 ∷ [])
+    ∷ grouping ((4, 1024) ∷ []) (4 ∷ [])
+    ∷ grouping ((4, 1024) ∷ (1, 1) ∷ []) (4 ∷ 1 ∷ [])
+    ∷ grouping ((3, 1024) ∷ (1, 1023) ∷ (2, 1) ∷ []) (5 ∷ 1 ∷ [])
+    ∷ grouping ((64, 64) ∷ (1, 1) ∷ []) (64 ∷ 1 ∷ [])
+    ∷ judged (ab ++ wordA) (cueWith wordA 2 [] ∷ cueWith ab 1 [] ∷ []) 0 2 3 (2 ∷ 1 ∷ 3 ∷ 0 ∷ 1 ∷ 1 ∷ [])
+    ∷ judged aba (cueWith wordA 1 [] ∷ cueWith wordB 2 [] ∷ replicate 63 (cueWith wordA 1 [])) 12 1 3 (0 ∷ 1 ∷ 1 ∷ [])
+    ∷ judged aa (replicate 64 (cueWith wordA 1 []) ++ cueWith wordA 3 [] ∷ []) 12 64 4 (times 64 (0 ∷ 1 ∷ 1 ∷ []))
     ∷ []

@@ -8,6 +8,7 @@ use matching::Answer;
 use matching::Finding;
 use plain::PlainCue;
 use plain::PlainField;
+use resolver::Resolving;
 ghost use mathlib.Core.Path.{_≡_};
 ghost use Rattle.matching.specs.Find.{Found};
 ghost use Rattle.fjs_steps.specs.Fjs.{fjs, Bounded};
@@ -130,18 +131,18 @@ pub extern "C" fn libretto_write_cue(
     cue_writer::write_cue(buffer, phrase, ordinal, title)
 }
 
-// The cues of a book resolved in a text, both folded by a page: 0 and the number of cues, or the refusal and its number.
+// The cues of a book resolved in a text, both folded by a page: 0 and the number of cues, or the refusal and its number; and the letters of the text that were read. It passes as a struct of three 32-bit
+// numbers.
 #[no_mangle]
 pub extern "C" fn libretto_resolve(
     page: u32,
     book: &[u8],
     text: &[u8],
     copy: &mut [u8],
-    phrase: &mut [u8],
     scratch: &mut [u16],
     entries: &mut [u32],
-) -> Answer
-    ensures { λ r. ⌜ Resolved page (now (book .entry)) (now (text .entry)) (now (copy .entry)) (now (phrase .entry)) (now (scratch .entry)) (now (entries .entry)) r (now (copy .exit)) (now (phrase .exit)) (now (scratch .exit)) (now (entries .exit)) ⌝ }
+) -> Resolving
+    ensures { λ r. ⌜ Resolved page (now (book .entry)) (now (text .entry)) (now (copy .entry)) (now (scratch .entry)) (now (entries .entry)) r (now (copy .exit)) (now (scratch .exit)) (now (entries .exit)) ⌝ }
 {
-    resolver::resolve(page, book, text, copy, phrase, scratch, entries)
+    resolver::resolve(page, book, text, copy, scratch, entries)
 }

@@ -21,39 +21,37 @@ use Rattle.outcome.proofs.Judging.{length-numbered}
 -- ---- the tests before the book is read
 
 -- 14 is tested after 5: a short scratch is refused with 5 whatever the page
-pub after-5 : (c : Call) → length (c .text) ≤ 32768 → c .scratch < 1281 → callRefusal c ≡ 5
+pub after-5 : (c : Call) → length (c .text) ≤ 32768 → c .scratch < 65535 → callRefusal c ≡ 5
 unfolding callRefusalOf firstMet
-after-5 c small short = rw (le-ltb 32768 (length (c .text)) small, lt-ltb (c .scratch) 1281 short) refl
+after-5 c small short = rw (le-ltb 32768 (length (c .text)) small, lt-ltb (c .scratch) 65535 short) refl
 
--- and before 6: an unknown page is refused with 14 whatever the buffers
-pub before-6 : (c : Call) → length (c .text) ≤ 32768 → 1281 ≤ c .scratch → isPage (c .page) ≡ false → callRefusal c ≡ 14
+-- and before 6: an unknown page is refused with 14 whatever the copy
+pub before-6 : (c : Call) → length (c .text) ≤ 32768 → 65535 ≤ c .scratch → isPage (c .page) ≡ false → callRefusal c ≡ 14
 unfolding callRefusalOf firstMet
-before-6 c small tables unknown = rw (le-ltb 32768 (length (c .text)) small, le-ltb (c .scratch) 1281 tables, unknown) refl
+before-6 c small tables unknown = rw (le-ltb 32768 (length (c .text)) small, le-ltb (c .scratch) 65535 tables, unknown) refl
 
 -- what holds where none refuses
 pub record Enough (c : Call) : Type 0 where
   pub small : length (c .text) ≤ 32768
-  pub tables : 1281 ≤ c .scratch
+  pub tables : 65535 ≤ c .scratch
   pub known : isPage (c .page) ≡ true
   pub whole : length (c .text) ≤ c .copy
-  pub buffer : 1024 ≤ c .phrase
 
 pub enough : {c : Call} → callRefusal c ≡ 0 → Enough c
 unfolding callRefusalOf Passed numbersTo
 enough {c} e =
-    let p = all-passed 14 (callTests (c .page) (length (c .text)) (c .copy) (c .phrase) (c .scratch)) refl e in
+    let p = all-passed 14 (callTests (c .page) (length (c .text)) (c .copy) (c .scratch)) refl e in
     record {
       small = ltb-false 32768 (length (c .text)) (p .0);
-      tables = ltb-false (c .scratch) 1281 (p .1 .0);
+      tables = ltb-false (c .scratch) 65535 (p .1 .0);
       known = not-false (isPage (c .page)) (p .1 .1 .0);
       whole = ltb-false (c .copy) (length (c .text)) (p .1 .1 .1 .0);
-      buffer = ltb-false (c .phrase) 1024 (p .1 .1 .1 .1 .0);
     }
 
 -- none of them refuses with 12
 call-not-12 : (c : Call) → callRefusal c ≡ 12 → ⊥
 unfolding callRefusalOf without
-call-not-12 c = met-not 12 (callTests (c .page) (length (c .text)) (c .copy) (c .phrase) (c .scratch)) refl (λ z. omega arith)
+call-not-12 c = met-not 12 (callTests (c .page) (length (c .text)) (c .copy) (c .scratch)) refl (λ z. omega arith)
 
 module _ (f : ℕ → ℕ) (c : Call) where
   -- ---- the outcome by its cases

@@ -1,5 +1,5 @@
 -- Judging cue by cue: the cases of a cue, what no fault means, and which cue a fault names. Assumes nothing.
-use mathlib.Core.Path.{_≡_, refl, sym, ap, subst, _∙_}
+use mathlib.Core.Path.{_≡_, refl, sym, ap, ap₂, subst, _∙_}
 use Prim.Native.Nat.{ℕ, suc, _+_}
 use native.Mathlib.Omega.{arith}
 use mathlib.Core.Bool.{true, false}
@@ -10,8 +10,8 @@ use borrow.Author.Tests.{eq-eqb, ne-eqb, eqb-true, eqb-false}
 use Rattle.matching.specs.Refusals.{firstMet}
 use Rattle.matching.proofs.CaseAnalysis.{by-test}
 use Rattle.cues.specs.Cue.{Cue}
-use Rattle.outcome.specs.Outcome.{Numbered, numberedFrom, isThere, placeOf, cueFault, Judged, judge}
-use Rattle.outcome.specs.Told.{cuesOf, AllThere, placesOf, Found, Faulted}
+use Rattle.outcome.specs.Outcome.{Numbered, numberedFrom, cuesOf, isThere, placeOf, cueFault, Judged, judge}
+use Rattle.outcome.specs.Told.{AllThere, placesOf, Found, Faulted}
 
 -- ---- cues with their numbers
 
@@ -78,6 +78,18 @@ module _ (f : ℕ → ℕ) (text : List ℕ) where
   pub judge-end : (found : List ℕ) → judge f text found [] ≡ record { refusal = 0; number = length found; places = found }
   unfolding judge
   judge-end found = refl
+
+  -- ---- some cues that are all found, and then the rest, as a walk by groups goes
+
+  pub judge-then : (found : List ℕ) (index : ℕ) (front rest : List Cue) → AllThere f text front
+      → judge f text found (numberedFrom index (front ++ rest)) ≡ judge f text (found ++ placesOf f text front) (numberedFrom (index + length front) rest)
+  unfolding AllThere numberedFrom
+  judge-then found index [] rest a = ap₂ (λ (l : List ℕ) (i : ℕ). judge f text l (numberedFrom i rest)) (sym (append-nil found)) (omega arith)
+  judge-then found index (c ∷ front) rest a =
+      let p : ℕ = placeOf f text c in
+      judge-on found (record { number = index; cue = c }) (numberedFrom (suc index) (front ++ rest)) (a .0)
+      ∙ judge-then (found ++ p ∷ []) (suc index) front rest (a .1)
+      ∙ ap₂ (λ (l : List ℕ) (i : ℕ). judge f text l (numberedFrom i rest)) (append-assoc found (p ∷ []) (placesOf f text front)) (omega arith)
 
   -- ---- no fault, or the first
 

@@ -1,5 +1,5 @@
 -- The resolver's law, for any fold that changes nothing the second time (document 02, (iv)): a call that gives 0 has every cue at the occurrence that it names, one that gives 12 every cue
--- before the named one, whose occurrence does not exist; and a text folded beforehand gives the same places. Assumes nothing.
+-- before the named one, whose occurrence does not exist, each with its reads; any other refusal leaves all as before; and a text folded beforehand gives the same places. Assumes nothing.
 use mathlib.Core.Path.{_≡_, refl, sym, ap, _∙_}
 use Prim.Native.Nat.{ℕ, _*_, _≤_}
 use native.Mathlib.Omega.{arith}
@@ -12,10 +12,11 @@ use Rattle.matching.specs.Received.{received}
 use Rattle.matching.proofs.CaseAnalysis.{by-test}
 use Rattle.cues.specs.Cue.{Cue}
 use Rattle.cue_book.specs.Reading.{Reading, refused, cues, readBook, cuesIn}
-use Rattle.outcome.specs.Outcome.{Numbered, chosen, Judged, judge, entriesOf, Resolution, resolution, Call, callRefusalOf, callRefusal, Outcome, refusing, withCues, withBook, outcome}
-use Rattle.outcome.specs.Told.{Idempotent, KeepsLines, cuesOf, placesOf, AllOut, OneMissing, beforehand, SamePlaces, Law}
-use Rattle.outcome.proofs.Judging.{numbered-cues, length-numbered, numbered-at, missing, all-found, one-faulted}
-use Rattle.outcome.proofs.Placing.{entries-count, entries-place, came-out, judge-folded, folded-before}
+use Rattle.outcome.specs.Outcome.{Numbered, chosen, cuesOf, placeOf, Judged, judge, entriesOf, readsOf, Resolution, resolution, Call, callRefusalOf, callRefusal, Outcome, refusing, withCues, withBook, outcome}
+use Rattle.outcome.specs.Told.{Idempotent, KeepsLines, placesOf, AllOut, OneMissing, Idle, beforehand, SamePlaces, Law}
+use Rattle.outcome.proofs.Judging.{numbered-cues, length-numbered, numbered-at, fault-missing, missing, all-found, one-faulted}
+use Rattle.outcome.proofs.Placing.{entries-count, entries-place, came-out, reads-folded, judge-folded, folded-before}
+use Rattle.outcome.proofs.Grouping.{book-grouped, group-of, reads-all, reads-up-to}
 use Rattle.outcome.proofs.Calls.{Reached, reached}
 
 -- ---- each cue comes out, by any fold
@@ -35,15 +36,18 @@ module _ (f : ℕ → ℕ) (c : Call) (book entries : List ℕ) (lent : length e
   judged = judge f (c .text) [] (chosen all)
 
   module _ (w : Reached f c book) where
-    given-is : given ≡ record { refusal = judged .refusal; number = judged .number; written = entriesOf (c .text) (judged .places) }
+    given-is : given ≡ record { refusal = judged .refusal; number = judged .number; reads = readsOf (c .text) judged (cuesOf (chosen all)); written = entriesOf (c .text) (judged .places) }
     unfolding resolution
     given-is = ap (λ (o : Outcome). o .resolution) (w .is)
+
+    reads-given : {cs : List Cue} → all ≡ cs → given .reads ≡ readsOf (c .text) judged cs
+    reads-given e = ap (λ (g : Resolution). g .reads) given-is ∙ ap (readsOf (c .text) judged) (numbered-cues 0 all ∙ e)
 
     entered-is : received entries (given .written) ≡ received entries (entriesOf (c .text) (judged .places))
     entered-is = ap (λ (g : Resolution). received entries (g .written)) given-is
 
   -- a call that gives 0
-  all-out : given .refusal ≡ 0 → AllOut f (c .text) book (received entries (given .written)) (given .number)
+  all-out : given .refusal ≡ 0 → AllOut f (c .text) book (received entries (given .written)) (given .number) (given .reads)
   all-out z =
       let w = reached f c book (inl z) in
       let is = given-is w in
@@ -53,13 +57,15 @@ module _ (f : ℕ → ℕ) (c : Call) (book entries : List ℕ) (lent : length e
         all = all;
         read = w .read;
         number-is = ap (λ (g : Resolution). g .number) is ∙ g .number ∙ omega (arith, length-numbered 0 all);
+        grouped = book-grouped book (w .read);
+        reads-are = reads-given w refl ∙ reads-all (c .text) judged all (omega (arith, ap length (g .places ∙ ap (placesOf f (c .text)) same), length-map all (placeOf f (c .text))));
         out =
             came-out f (c .text) entries (rw same at (g .there)) (omega (arith, w .three, lent))
             (entered-is w ∙ ap (λ (l : List ℕ). received entries (entriesOf (c .text) l)) (g .places ∙ ap (placesOf f (c .text)) same));
       }
 
   -- a call that gives 12
-  one-missing : given .refusal ≡ 12 → OneMissing f (c .text) book (received entries (given .written)) (given .number)
+  one-missing : given .refusal ≡ 12 → OneMissing f (c .text) book (received entries (given .written)) (given .number) (given .reads)
   one-missing z =
       let w = reached f c book (inr z) in
       let is = given-is w in
@@ -67,6 +73,8 @@ module _ (f : ℕ → ℕ) (c : Call) (book entries : List ℕ) (lent : length e
       let g = one-faulted f (c .text) [] (chosen all) (λ n. omega arith) in
       let split : all ≡ cuesOf (g .before) ++ g .faulty .cue ∷ cuesOf (g .later) = sym (numbered-cues 0 all) ∙ ap cuesOf (g .all) ∙ cues-split (g .before) (g .faulty) (g .later) in
       let few : length (cuesOf (g .before)) ≤ length all = omega (arith, ap length split, length-append (cuesOf (g .before)) (g .faulty .cue ∷ cuesOf (g .later))) in
+      let here = group-of (cuesOf (g .before)) (g .faulty .cue) (cuesOf (g .later)) in
+      let found : length (judged .places) ≡ length (cuesOf (g .before)) = ap length (g .places) ∙ length-map (cuesOf (g .before)) (placeOf f (c .text)) in
       record {
         earlier = cuesOf (g .before);
         missing = g .faulty .cue;
@@ -74,18 +82,53 @@ module _ (f : ℕ → ℕ) (c : Call) (book entries : List ℕ) (lent : length e
         read = w .read ∙ ap cues split;
         number-is = ap (λ (g : Resolution). g .number) is ∙ g .number ∙ numbered-at 0 all (g .before) (g .faulty) (g .later) (g .all) ∙ omega (arith, length-map (g .before) (λ (x : Numbered). x .cue));
         absent = missing f (c .text) (g .faulty .cue) (λ n. omega (arith, g .why));
+        grouped = book-grouped book (w .read ∙ ap cues split);
+        group = here;
+        reads-are = reads-given w split ∙ reads-up-to (c .text) judged (cuesOf (g .before)) (g .faulty .cue) (cuesOf (g .later)) here found;
         out = came-out f (c .text) entries (g .there) (omega (arith, w .three, lent)) (entered-is w ∙ ap (λ (l : List ℕ). received entries (entriesOf (c .text) l)) (g .places));
       }
+
+-- ---- any other refusal
+
+idle-self : (number index : ℕ) → Idle (refusing number index)
+idle-self number index = record { works = refl; reads = refl; written = refl }
+
+module _ (f : ℕ → ℕ) (c : Call) where
+  -- cues that are resolved give 0 or 12
+  zero-or-twelve : (xs : List Numbered) → (resolution f (c .text) xs .refusal ≡ 0 → ⊥) → resolution f (c .text) xs .refusal ≡ 12
+  unfolding resolution
+  zero-or-twelve xs some =
+      let g = one-faulted f (c .text) [] xs some in
+      g .why ∙ fault-missing f (c .text) (g .faulty .cue) (missing f (c .text) (g .faulty .cue) (λ z. some (g .why ∙ z)))
+
+  idle-book : (book : Reading) → let o = withBook f c book in (o .resolution .refusal ≡ 0 → ⊥) → (o .resolution .refusal ≡ 12 → ⊥) → Idle o
+  unfolding withBook withCues
+  idle-book (refused number index) = λ some other. idle-self number index
+  idle-book (cues cs) =
+      by-test
+      (λ t. let o : Outcome = cond t (refusing 11 0) (record { works = true; resolution = resolution f (c .text) (chosen cs) }) in (o .resolution .refusal ≡ 0 → ⊥) → (o .resolution .refusal ≡ 12 → ⊥) → Idle o)
+      (ltb (c .entries) (3 * length (chosen cs)))
+      (λ _ some other. idle-self 11 0)
+      (λ _ some other. absurd (other (zero-or-twelve (chosen cs) some)))
+
+  idle : (book : Reading) → let o = outcome f c book in (o .resolution .refusal ≡ 0 → ⊥) → (o .resolution .refusal ≡ 12 → ⊥) → Idle o
+  unfolding outcome
+  idle book =
+      by-test
+      (λ t. let o : Outcome = cond t (withBook f c book) (refusing (callRefusal c) 0) in (o .resolution .refusal ≡ 0 → ⊥) → (o .resolution .refusal ≡ 12 → ⊥) → Idle o)
+      (eqb (callRefusal c) 0)
+      (λ _. idle-book book)
+      (λ _ some other. idle-self (callRefusal c) 0)
 
 -- ---- a text folded beforehand
 
 same-self : (o : Outcome) → SamePlaces o o
-same-self o = record { works = refl; refusal = refl; number = refl; written = refl; places = λ i. refl }
+same-self o = record { works = refl; refusal = refl; number = refl; reads = refl; written = refl; places = λ i. refl }
 
 module _ (f : ℕ → ℕ) (twice : Idempotent f) (c : Call) where
   -- no test looks at the text's letters
   refusal-same : callRefusal (beforehand f c) ≡ callRefusal c
-  refusal-same = ap (λ (n : ℕ). callRefusalOf (c .page) n (c .copy) (c .phrase) (c .scratch)) (length-map (c .text) f)
+  refusal-same = ap (λ (n : ℕ). callRefusalOf (c .page) n (c .copy) (c .scratch)) (length-map (c .text) f)
 
   -- the same judgement, so the same places
   places-same : (xs : List Numbered) → SamePlaces (record { works = true; resolution = resolution f (map f (c .text)) xs }) (record { works = true; resolution = resolution f (c .text) xs })
@@ -98,6 +141,7 @@ module _ (f : ℕ → ℕ) (twice : Idempotent f) (c : Call) where
         works = refl;
         refusal = refl;
         number = refl;
+        reads = reads-folded f (c .text) j (cuesOf xs);
         written = entries-count (map f (c .text)) (j .places) ∙ sym (entries-count (c .text) (j .places));
         places = λ i. entries-place (map f (c .text)) (j .places) i ∙ sym (entries-place (c .text) (j .places) i);
       })
@@ -133,4 +177,4 @@ module _ (f : ℕ → ℕ) (twice : Idempotent f) (c : Call) where
 -- ---- the law
 
 pub law : (f : ℕ → ℕ) → Idempotent f → Law f
-law f twice = record { all-out = all-out f; one-missing = one-missing f; same-places = same-places f twice; same-lines = λ keeps c. same-lines f twice c keeps }
+law f twice = record { all-out = all-out f; one-missing = one-missing f; idle = idle f; same-places = same-places f twice; same-lines = λ keeps c. same-lines f twice c keeps }

@@ -17,7 +17,7 @@ use Rattle.matching.proofs.Occurrences.{member, occurrences-are, occurrences-ri
 use Rattle.cues.specs.Cue.{Cue}
 use Rattle.line_column.specs.declared.LineColumn.{LineColumn}
 use Rattle.line_column.specs.LineColumn.{lineColumn}
-use Rattle.outcome.specs.Outcome.{Numbered, cueOccurrences, isThere, placeOf, cueFault, Judged, judge, entriesOf, resolution}
+use Rattle.outcome.specs.Outcome.{Numbered, cuesOf, cueOccurrences, isThere, placeOf, cueFault, Judged, judge, entriesOf, groups, judgedOf, readsOf, resolution}
 use Rattle.outcome.specs.Told.{Idempotent, KeepsLines, AllThere, placesOf, CameOut, Named}
 
 -- ---- the occurrence that a cue names
@@ -44,10 +44,10 @@ unfolding entriesOf
 entries-count text [] = refl
 entries-count text (p ∷ ps) = omega (arith, entries-count text ps)
 
-pub entries-more : (text places : List ℕ) (p : ℕ) → entriesOf text (places ++ p ∷ []) ≡ entriesOf text places ++ p ∷ lineColumn text p .line ∷ lineColumn text p .column ∷ []
+pub entries-then : (text places more : List ℕ) → entriesOf text (places ++ more) ≡ entriesOf text places ++ entriesOf text more
 unfolding entriesOf
-entries-more text [] p = refl
-entries-more text (q ∷ places) p = ap (λ (l : List ℕ). q ∷ lineColumn text q .line ∷ lineColumn text q .column ∷ l) (entries-more text places p)
+entries-then text [] more = refl
+entries-then text (p ∷ places) more = ap (λ (l : List ℕ). p ∷ lineColumn text p .line ∷ lineColumn text p .column ∷ l) (entries-then text places more)
 
 -- the first of a place's three is the place
 pub entries-place : (text places : List ℕ) (index : ℕ) → getD (entriesOf text places) (3 * index) 0 ≡ getD places index 0
@@ -108,6 +108,11 @@ module _ (f : ℕ → ℕ) (text : List ℕ) where
 
 -- ---- a text folded beforehand
 
+-- as many reads: a fold changes no length
+pub reads-folded : (f : ℕ → ℕ) (text : List ℕ) (j : Judged) (cs : List Cue) → readsOf (map f text) j cs ≡ readsOf text j cs
+unfolding readsOf
+reads-folded f text j cs = ap (λ (n : ℕ). n * length (groups (judgedOf j cs))) (length-map text f)
+
 module _ (f : ℕ → ℕ) (twice : Idempotent f) where
   text-twice : (text : List ℕ) → map f (map f text) ≡ map f text
   text-twice [] = refl
@@ -142,5 +147,7 @@ module _ (f : ℕ → ℕ) (twice : Idempotent f) where
     pub folded-before : (text : List ℕ) (xs : List Numbered) → resolution f (map f text) xs ≡ resolution f text xs
     unfolding resolution
     folded-before text xs =
-        ap (λ (j : Judged). record { refusal = j .refusal; number = j .number; written = entriesOf (map f text) (j .places) }) (judge-folded text [] xs)
-        ∙ ap (λ (l : List ℕ). record { refusal = judge f text [] xs .refusal; number = judge f text [] xs .number; written = l }) (entries-folded text (judge f text [] xs .places))
+        let cs : List Cue = cuesOf xs in
+        ap (λ (j : Judged). record { refusal = j .refusal; number = j .number; reads = readsOf (map f text) j cs; written = entriesOf (map f text) (j .places) }) (judge-folded text [] xs)
+        ∙ ap₂ (λ (n : ℕ) (l : List ℕ). record { refusal = judge f text [] xs .refusal; number = judge f text [] xs .number; reads = n; written = l }) (reads-folded f text (judge f text [] xs) cs)
+        (entries-folded text (judge f text [] xs .places))

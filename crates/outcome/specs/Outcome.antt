@@ -1,10 +1,10 @@
--- What resolving the cues of a book comes to (document 01, "Cue book, folding, lines"; document 02, (iv)): which cues are chosen, where each stands, the first fault, and what is written. It says nothing
--- of how the places are found.
-use Prim.Native.Nat.{ℕ, suc, _-_, _*_}
-use mathlib.Core.Bool.{Bool, true, false, cond, not}
+-- What resolving the cues of a book comes to (document 01, "Cue book, folding, lines"; document 02, (iv) and (vi)): which cues are chosen, where each stands, the first fault, what is written, and how
+-- often the text's letters are read. It says nothing of how the places are found.
+use Prim.Native.Nat.{ℕ, suc, _+_, _-_, _*_}
+use mathlib.Core.Bool.{Bool, true, false, cond, not, _&&_}
 use mathlib.Core.List.{List, [], _∷_, _++_, map}
-use lib.ListN.{length, getD}
-use lib.Dec.{eqb, ltb}
+use lib.ListN.{length, getD, take}
+use lib.Dec.{eqb, ltb, leb}
 use Rattle.matching.specs.Occurrences.{occurrences, hasNth}
 use Rattle.matching.specs.Refusals.{Test, firstMet}
 use Rattle.fold.specs.Fold.{isPage}
@@ -26,6 +26,10 @@ numberedFrom k (c ∷ cs) = record { number = k; cue = c } ∷ numberedFrom (suc
 -- all cues of a book, each by its index
 abbrev pub chosen : List Cue → List Numbered
 chosen cs = numberedFrom 0 cs
+
+-- the cues of numbered ones
+abbrev pub cuesOf : List Numbered → List Cue
+cuesOf xs = map (λ x. x .cue) xs
 
 -- ---- place: where a cue stands, by a fold f
 
@@ -73,53 +77,97 @@ unfolding lineColumn
 entriesOf text [] = []
 entriesOf text (p ∷ ps) = p ∷ lineColumn text p .line ∷ lineColumn text p .column ∷ entriesOf text ps
 
+-- ---- read: the text, letter by letter, once for each group of consecutive cues, as many as fit into 64 cues and 4,096 phrase bytes
+
+-- their phrase bytes
+unfoldable pub letters : List Cue → ℕ
+letters [] = 0
+letters (c ∷ cs) = length (c .phrase) + letters cs
+
+-- whether they fit into one group
+abbrev pub few : List Cue → Bool
+few group = leb (length group) 64
+
+abbrev pub short : List Cue → Bool
+short group = leb (letters group) 4096
+
+abbrev pub fits : List Cue → Bool
+fits group = few group && short group
+
+-- the groups, where the first of them has begun: a cue joins it while it fits, and else begins the next
+unfoldable pub groupsAfter : List Cue → List Cue → List (List Cue)
+unfolding letters
+groupsAfter group [] = group ∷ []
+groupsAfter group (c ∷ cs) =
+    let more = groupsAfter (group ++ c ∷ []) cs in
+    let anew : List (List Cue) = group ∷ groupsAfter (c ∷ []) cs in
+    cond (fits (group ++ c ∷ [])) more anew
+
+unfoldable pub groups : List Cue → List (List Cue)
+unfolding groupsAfter
+groups [] = []
+groups (c ∷ cs) = groupsAfter (c ∷ []) cs
+
+-- the cues that were judged: those with places, and the one with a fault
+abbrev pub judgedCount : Judged → ℕ
+judgedCount j = suc (length (j .places))
+
+abbrev pub judgedOf : Judged → List Cue → List Cue
+judgedOf j cs = take (judgedCount j) cs
+
+-- every letter once for each group that was walked: the group of the cue with a fault is the last of them
+unfoldable pub readsOf : List ℕ → Judged → List Cue → ℕ
+unfolding groups
+readsOf text j cs = length text * length (groups (judgedOf j cs))
+
 -- ---- together: what is given back, and the entries written
 
 pub record Resolution : Type 0 where
   pub refusal : ℕ
   pub number : ℕ
+  pub reads : ℕ
   pub written : List ℕ
 
 unfoldable pub resolution : (ℕ → ℕ) → List ℕ → List Numbered → Resolution
-unfolding judge entriesOf
-resolution f text xs = let j : Judged = judge f text [] xs in record { refusal = j .refusal; number = j .number; written = entriesOf text (j .places) }
+unfolding judge entriesOf readsOf
+resolution f text xs =
+    let j : Judged = judge f text [] xs in
+    record { refusal = j .refusal; number = j .number; reads = readsOf text j (cuesOf xs); written = entriesOf text (j .places) }
 
 -- ---- a call
 
--- the refusals before the book is read: a page, a text of n bytes, and the lengths of text copy, phrase buffer and scratch
-abbrev pub callTests : ℕ → ℕ → ℕ → ℕ → ℕ → List Test
-callTests page n copy phrase scratch =
+-- the refusals before the book is read: a page, a text of n bytes, and the lengths of text copy and scratch
+abbrev pub callTests : ℕ → ℕ → ℕ → ℕ → List Test
+callTests page n copy scratch =
     (ltb 32768 n, 4) ∷
-    (ltb scratch 1281, 5) ∷
+    (ltb scratch 65535, 5) ∷
     (not (isPage page), 14) ∷
     (ltb copy n, 6) ∷
-    (ltb phrase 1024, 6) ∷
     []
 
-unfoldable pub callRefusalOf : ℕ → ℕ → ℕ → ℕ → ℕ → ℕ
+unfoldable pub callRefusalOf : ℕ → ℕ → ℕ → ℕ → ℕ
 unfolding firstMet isPage
-callRefusalOf page n copy phrase scratch = firstMet (callTests page n copy phrase scratch)
+callRefusalOf page n copy scratch = firstMet (callTests page n copy scratch)
 
 -- what a call is told and lent, but for the book. What the lent memory held plays no part: only its lengths do
 pub record Call : Type 0 where
   pub page : ℕ
   pub text : List ℕ
   pub copy : ℕ
-  pub phrase : ℕ
   pub scratch : ℕ
   pub entries : ℕ
 
 abbrev pub callRefusal : Call → ℕ
-callRefusal c = callRefusalOf (c .page) (length (c .text)) (c .copy) (c .phrase) (c .scratch)
+callRefusal c = callRefusalOf (c .page) (length (c .text)) (c .copy) (c .scratch)
 
 -- whether the cues are resolved, so that the lent memory is worked on, and what comes of it
 pub record Outcome : Type 0 where
   pub works : Bool
   pub resolution : Resolution
 
--- refused, all as before
+-- refused, nothing read, all as before
 abbrev pub refusing : ℕ → ℕ → Outcome
-refusing refusal number = record { works = false; resolution = record { refusal = refusal; number = number; written = [] } }
+refusing refusal number = record { works = false; resolution = record { refusal = refusal; number = number; reads = 0; written = [] } }
 
 -- fewer than 3 entries for each chosen cue (11); then the cues
 unfoldable pub withCues : (ℕ → ℕ) → Call → List Numbered → Outcome

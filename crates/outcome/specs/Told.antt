@@ -1,6 +1,6 @@
 -- The words in which the outcome's laws are told to a caller, and the resolver's law of a fold.
 use mathlib.Core.Path.{_≡_}
-use Prim.Native.Nat.{ℕ, _+_, _*_, _≤_, _<_}
+use Prim.Native.Nat.{ℕ, suc, _+_, _*_, _≤_, _<_}
 use mathlib.Core.Bool.{true, false}
 use mathlib.Core.List.{List, [], _∷_, _++_, map}
 use lib.ListN.{length, getD, take, drop}
@@ -9,7 +9,7 @@ use Rattle.matching.specs.Received.{received}
 use Rattle.cues.specs.Cue.{Cue}
 use Rattle.cue_book.specs.Reading.{Reading, cues, readBook}
 use Rattle.line_column.specs.LineColumn.{lineColumn}
-use Rattle.outcome.specs.Outcome.{Numbered, cueOccurrences, isThere, placeOf, cueFault, Judged, entriesOf, Call, Outcome, outcome}
+use Rattle.outcome.specs.Outcome.{Numbered, cuesOf, cueOccurrences, isThere, placeOf, cueFault, Judged, entriesOf, fits, groups, Call, Outcome, outcome}
 
 -- folding a second time changes nothing
 abbrev pub Idempotent : (ℕ → ℕ) → Type 0
@@ -19,9 +19,57 @@ Idempotent f = (b : ℕ) → f (f b) ≡ f b
 abbrev pub KeepsLines : (ℕ → ℕ) → Type 0
 KeepsLines f = (text : List ℕ) (place : ℕ) → lineColumn (map f text) place ≡ lineColumn text place
 
--- the cues of numbered ones
-abbrev pub cuesOf : List Numbered → List Cue
-cuesOf xs = map (λ x. x .cue) xs
+-- ---- the groups (document 02, (vi))
+
+-- one after another
+unfoldable pub joined : List (List Cue) → List Cue
+joined [] = []
+joined (g ∷ gs) = g ++ joined gs
+
+-- each has a cue
+unfoldable pub AllSome : List (List Cue) → Type 0
+AllSome [] = Unit {0}
+AllSome (g ∷ gs) = (1 ≤ length g) × AllSome gs
+
+-- each fits into 64 cues and 4,096 phrase bytes
+unfoldable pub AllFit : List (List Cue) → Type 0
+AllFit [] = Unit {0}
+AllFit (g ∷ gs) = (fits g ≡ true) × AllFit gs
+
+-- none has room for the first cue of the next
+unfoldable pub AllFull : List (List Cue) → Type 0
+AllFull [] = Unit {0}
+AllFull (g ∷ []) = Unit {0}
+AllFull (g ∷ h ∷ gs) = (fits (g ++ take 1 h) ≡ false) × AllFull (h ∷ gs)
+
+-- the cues in their order, as many in each group as fit
+pub record Grouping (cs : List Cue) (gs : List (List Cue)) : Type 0 where
+  pub consecutive : joined gs ≡ cs
+  pub some : AllSome gs
+  pub fit : AllFit gs
+  pub full : AllFull gs
+
+-- a group before the cues that are left: it has a cue, it fits, and it has no room for the first of those
+pub record Group (g rest : List Cue) : Type 0 where
+  pub some : 1 ≤ length g
+  pub fit : fits g ≡ true
+  pub closed : 1 ≤ length rest → fits (g ++ take 1 rest) ≡ false
+
+-- the group of a cue among the groups `gs`: `full` come before it. The groups `upTo` of the cues up to this one are those and what its group has so far, so that what follows a cue plays no part in its group
+pub record Holds (c : Cue) (gs upTo : List (List Cue)) : Type 0 where
+  pub full : List (List Cue)
+  pub front : List Cue
+  pub back : List Cue
+  pub others : List (List Cue)
+  pub whole : gs ≡ full ++ (front ++ c ∷ back) ∷ others
+  pub so-far : upTo ≡ full ++ (front ++ c ∷ []) ∷ []
+
+abbrev pub GroupOf : List Cue → Cue → List Cue → Type 0
+GroupOf before c later = Holds c (groups (before ++ c ∷ later)) (groups (before ++ c ∷ []))
+
+-- its number, 1 for the first
+abbrev pub groupNumber : {c : Cue} {gs upTo : List (List Cue)} → Holds c gs upTo → ℕ
+groupNumber g = suc (length (g .full))
 
 module _ (f : ℕ → ℕ) (text : List ℕ) where
   -- every cue is found
@@ -63,42 +111,55 @@ module _ (f : ℕ → ℕ) (text : List ℕ) where
     pub named : Named c (placeOf f text c)
     pub entered : take 3 (drop (3 * index) entries) ≡ entriesOf text (placeOf f text c ∷ [])
 
-  -- refusal 0: the book reads as cues, the number is how many, and every one of them came out
-  pub record AllOut (book entries : List ℕ) (number : ℕ) : Type 0 where
+  -- refusal 0: the book reads as cues, the number is how many, every one of them came out, and every letter was read once for each of their groups
+  pub record AllOut (book entries : List ℕ) (number reads : ℕ) : Type 0 where
     pub all : List Cue
     pub read : readBook book ≡ cues all
     pub number-is : number ≡ length all
+    pub grouped : Grouping all (groups all)
+    pub reads-are : reads ≡ length text * length (groups all)
     pub out : (before : List Cue) (c : Cue) (later : List Cue) → all ≡ before ++ c ∷ later → CameOut entries (length before) c
 
-  -- refusal 12: the book reads as cues, and the number is the index of one whose occurrence does not exist; every cue before that one came out
-  pub record OneMissing (book entries : List ℕ) (number : ℕ) : Type 0 where
+  -- refusal 12: the book reads as cues, and the number is the index of one whose occurrence does not exist; every cue before that one came out, and every letter was read once for each group up to its own
+  pub record OneMissing (book entries : List ℕ) (number reads : ℕ) : Type 0 where
     pub earlier : List Cue
     pub missing : Cue
     pub after : List Cue
     pub read : readBook book ≡ cues (earlier ++ missing ∷ after)
     pub number-is : number ≡ length earlier
     pub absent : isThere f text missing ≡ false
+    pub grouped : Grouping (earlier ++ missing ∷ after) (groups (earlier ++ missing ∷ after))
+    pub group : GroupOf earlier missing after
+    pub reads-are : reads ≡ length text * groupNumber group
     pub out : (before : List Cue) (c : Cue) (later : List Cue) → earlier ≡ before ++ c ∷ later → CameOut entries (length before) c
+
+-- any other refusal: the lent memory is not worked on, nothing is read, and nothing is written
+pub record Idle (o : Outcome) : Type 0 where
+  pub works : o .works ≡ false
+  pub reads : o .resolution .reads ≡ 0
+  pub written : o .resolution .written ≡ []
 
 -- ---- the resolver's law (document 02, (iv)), of a fold
 
 -- the call with its text folded beforehand
 abbrev pub beforehand : (ℕ → ℕ) → Call → Call
-beforehand f c = record { page = c .page; text = map f (c .text); copy = c .copy; phrase = c .phrase; scratch = c .scratch; entries = c .entries }
+beforehand f c = record { page = c .page; text = map f (c .text); copy = c .copy; scratch = c .scratch; entries = c .entries }
 
 -- two outcomes give the same back, and the same place for each cue, which is the first of its three entries
 pub record SamePlaces (o o′ : Outcome) : Type 0 where
   pub works : o .works ≡ o′ .works
   pub refusal : o .resolution .refusal ≡ o′ .resolution .refusal
   pub number : o .resolution .number ≡ o′ .resolution .number
+  pub reads : o .resolution .reads ≡ o′ .resolution .reads
   pub written : length (o .resolution .written) ≡ length (o′ .resolution .written)
   pub places : (index : ℕ) → getD (o .resolution .written) (3 * index) 0 ≡ getD (o′ .resolution .written) (3 * index) 0
 
 -- each cue comes out at the occurrence of its folded phrase in the folded text, and a text folded beforehand gives the same places; where the fold keeps lines, it gives the same of everything
 pub record Law (f : ℕ → ℕ) : Type 0 where
   pub all-out : (c : Call) (book entries : List ℕ) → length entries ≡ c .entries → let o = outcome f c (readBook book) .resolution in
-      o .refusal ≡ 0 → AllOut f (c .text) book (received entries (o .written)) (o .number)
+      o .refusal ≡ 0 → AllOut f (c .text) book (received entries (o .written)) (o .number) (o .reads)
   pub one-missing : (c : Call) (book entries : List ℕ) → length entries ≡ c .entries → let o = outcome f c (readBook book) .resolution in
-      o .refusal ≡ 12 → OneMissing f (c .text) book (received entries (o .written)) (o .number)
+      o .refusal ≡ 12 → OneMissing f (c .text) book (received entries (o .written)) (o .number) (o .reads)
+  pub idle : (c : Call) (book : Reading) → let o = outcome f c book in (o .resolution .refusal ≡ 0 → ⊥) → (o .resolution .refusal ≡ 12 → ⊥) → Idle o
   pub same-places : (c : Call) (book : Reading) → SamePlaces (outcome f (beforehand f c) book) (outcome f c book)
   pub same-lines : KeepsLines f → (c : Call) (book : Reading) → outcome f (beforehand f c) book ≡ outcome f c book

@@ -1,26 +1,23 @@
-// What resolving the cues of a book comes to, as definitions and laws: which cues are chosen, where each stands, the first fault, what is written, and what a call gives back.
+// What resolving the cues of a book comes to, as definitions and laws: which cues are chosen, where each stands, the first fault, what is written, how often the text is read, and what a call gives back.
 // `resolver` computes what is defined here; the one function of this crate makes the tests of a call before its book is read. A change to a definition or a law is checked here, in a second or two.
-// It depends on `matching` for the occurrences and the table of refusals, on `fold` for the pages that there are, on `line_column` for the line rule, on `cues` for a cue, and on `cue_book` for what a book reads as.
+// It depends on `matching` for the occurrences and the table of refusals, on `fold` for the pages that there are, on `line_column` for the line rule, on `cue_fields` and `cues` for a cue, and on `cue_book` for what a book reads as.
 ghost use mathlib.Core.Path.{_≡_};
 ghost use Rattle.outcome.specs.Outcome.{callRefusalOf};
 
 // The tests of the text, of the page and of the lent memory, before the book is read; 0 for none.
-pub fn refused(page: u32, n: usize, copy: usize, phrase: usize, scratch: usize) -> u32
-    ensures { λ r. ⌜ r ≡ callRefusalOf page n copy phrase scratch ⌝ }
+pub fn refused(page: u32, n: usize, copy: usize, scratch: usize) -> u32
+    ensures { λ r. ⌜ r ≡ callRefusalOf page n copy scratch ⌝ }
 {
     if 32768 < n {
         return 4;
     }
-    if scratch < 1281 {
+    if scratch < 65535 {
         return 5;
     }
     if !fold::is_page(page) {
         return 14;
     }
     if copy < n {
-        return 6;
-    }
-    if phrase < 1024 {
         return 6;
     }
     0

@@ -2,7 +2,7 @@
 use mathlib.Core.Path.{_≡_, sym, ap, subst, _∙_}
 use Prim.Native.Nat.{ℕ, _*_, _≤_, _<_}
 use mathlib.Core.List.{List, _++_, map}
-use lib.ListN.{length, drop, replicate}
+use lib.ListN.{length, drop}
 use Rattle.matching.proofs.Received.{received-none}
 use Rattle.fold.specs.Fold.{foldOn}
 use Rattle.cues.specs.Cue.{Cue}
@@ -11,32 +11,34 @@ use Rattle.cue_book.specs.Reading.{cues, readBook, cuesIn}
 use Rattle.cue_book.specs.Places.{bookAnswer}
 use Rattle.outcome.specs.Outcome.{callRefusal, refusing}
 use Rattle.outcome.proofs.Calls.{outcome-refused, outcome-book, outcome-few, outcome-works}
+use Rattle.resolver.specs.declared.Resolving.{Resolving}
 use Rattle.resolver.specs.Resolver.{call, comesTo, Resolved}
 use Rattle.resolver.specs.Walking.{Placed}
 
-module _ (page : ℕ) (book text copy phrase scratch entries : List ℕ) where
+module _ (page : ℕ) (book text copy scratch entries : List ℕ) where
   -- refused: all as before
-  resolved-refused : {number index : ℕ} → comesTo book (call page text copy phrase scratch entries) ≡ refusing number index
-      → Resolved page book text copy phrase scratch entries (record { refusal = number; number = index }) copy phrase scratch entries
-  resolved-refused e = record { answer = rw e; copied = rw e; cleared = rw e; emptied = rw e; entered = rw e (sym (received-none entries)) }
+  resolved-refused : {number index : ℕ} → comesTo book (call page text copy scratch entries) ≡ refusing number index
+      → Resolved page book text copy scratch entries (record { refusal = number; number = index; reads = 0 }) copy scratch entries
+  resolved-refused e = record { answer = rw e; copied = rw e; emptied = rw e; entered = rw e (sym (received-none entries)) }
 
-  pub resolved-memory : {number : ℕ} → number ≡ callRefusal (call page text copy phrase scratch entries) → (number ≡ 0 → ⊥)
-      → Resolved page book text copy phrase scratch entries (record { refusal = number; number = 0 }) copy phrase scratch entries
-  resolved-memory e some = resolved-refused (outcome-refused (foldOn page) (call page text copy phrase scratch entries) book e some)
+  pub resolved-memory : {number : ℕ} → number ≡ callRefusal (call page text copy scratch entries) → (number ≡ 0 → ⊥)
+      → Resolved page book text copy scratch entries (record { refusal = number; number = 0; reads = 0 }) copy scratch entries
+  resolved-memory e some = resolved-refused (outcome-refused (foldOn page) (call page text copy scratch entries) book e some)
 
-  module _ (fine : callRefusal (call page text copy phrase scratch entries) ≡ 0) where
-    pub resolved-book : {r : Answer} → r ≡ bookAnswer book → (r .refusal ≡ 0 → ⊥) → Resolved page book text copy phrase scratch entries r copy phrase scratch entries
+  module _ (fine : callRefusal (call page text copy scratch entries) ≡ 0) where
+    pub resolved-book : {r : Answer} → r ≡ bookAnswer book → (r .refusal ≡ 0 → ⊥)
+        → Resolved page book text copy scratch entries (record { refusal = r .refusal; number = r .number; reads = 0 }) copy scratch entries
     resolved-book is some =
-        subst (λ (a : Answer). Resolved page book text copy phrase scratch entries a copy phrase scratch entries) (sym is)
-        (resolved-refused (outcome-book (foldOn page) (call page text copy phrase scratch entries) book fine (λ z. some (ap (λ (a : Answer). a .refusal) is ∙ z))))
+        subst (λ (a : Answer). Resolved page book text copy scratch entries (record { refusal = a .refusal; number = a .number; reads = 0 }) copy scratch entries) (sym is)
+        (resolved-refused (outcome-book (foldOn page) (call page text copy scratch entries) book fine (λ z. some (ap (λ (a : Answer). a .refusal) is ∙ z))))
 
-    pub resolved-few : {cs : List Cue} → readBook book ≡ cues cs → length entries < 3 * length cs → Resolved page book text copy phrase scratch entries (record { refusal = 11; number = 0 }) copy phrase scratch entries
-    resolved-few read h = resolved-refused (outcome-few (foldOn page) (call page text copy phrase scratch entries) book fine read h)
+    pub resolved-few : {cs : List Cue} → readBook book ≡ cues cs → length entries < 3 * length cs
+        → Resolved page book text copy scratch entries (record { refusal = 11; number = 0; reads = 0 }) copy scratch entries
+    resolved-few read h = resolved-refused (outcome-few (foldOn page) (call page text copy scratch entries) book fine read h)
 
     -- the cues were resolved
-    pub resolved-works : {r : Answer} {copy′ phrase′ scratch′ entries′ : List ℕ} → readBook book ≡ cues (cuesIn (readBook book)) → 3 * length (cuesIn (readBook book)) ≤ length entries
-        → copy′ ≡ map (foldOn page) text ++ drop (length text) copy → phrase′ ≡ replicate (length phrase) 0 → scratch′ ≡ replicate (length scratch) 0 → Placed (foldOn page) book text entries r entries′
-        → Resolved page book text copy phrase scratch entries r copy′ phrase′ scratch′ entries′
-    resolved-works read enough c p s placed =
-        let e = outcome-works (foldOn page) (call page text copy phrase scratch entries) book fine read enough in
-        record { answer = rw e (placed .answer); copied = rw e c; cleared = rw e p; emptied = rw e s; entered = rw e (placed .entered) }
+    pub resolved-works : {r : Resolving} {copy′ scratch′ entries′ : List ℕ} → readBook book ≡ cues (cuesIn (readBook book)) → 3 * length (cuesIn (readBook book)) ≤ length entries
+        → copy′ ≡ map (foldOn page) text ++ drop (length text) copy → Placed page book text scratch entries r scratch′ entries′ → Resolved page book text copy scratch entries r copy′ scratch′ entries′
+    resolved-works read enough c placed =
+        let e = outcome-works (foldOn page) (call page text copy scratch entries) book fine read enough in
+        record { answer = rw e (placed .answer); copied = rw e c; emptied = rw e (placed .emptied); entered = rw e (placed .entered) }

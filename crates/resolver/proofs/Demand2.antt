@@ -1,20 +1,22 @@
 -- Demand 2 on the resolver, for what a caller has: a resolve that gives 0 has every cue at the occurrence that it names (`all-out`), one that gives 12 every cue before the named one, whose
--- occurrence does not exist (`one-missing`); and a text folded beforehand gives the same (`folded-before`). Each is the law of any fold (`law` of `outcome`) for the fold of the call's page
--- (`page-law`), since that one changes nothing the second time and keeps line ends. Assumes nothing.
+-- occurrence does not exist (`one-missing`), and both say how often the text was read; one that gives any other refusal has read nothing and left all as before (`idle`); and a text folded
+-- beforehand gives the same (`folded-before`). Each is the law of any fold (`law` of `outcome`) for the fold of the call's page (`page-law`), since that one changes nothing the second time and keeps
+-- line ends. Assumes nothing.
 use mathlib.Core.Path.{_≡_, refl, sym, ap, _∙_}
 use Prim.Native.Nat.{ℕ}
 use native.Mathlib.Omega.{arith}
 use mathlib.Core.List.{List, map}
 use Rattle.matching.specs.Received.{received}
+use Rattle.matching.proofs.Received.{received-none}
 use Rattle.fold.specs.Fold.{foldOn}
 use Rattle.fold.proofs.Fold.{page-twice, page-control}
-use Rattle.matching.specs.declared.Answer.{Answer}
 use Rattle.cue_book.specs.Reading.{readBook}
 use Rattle.line_column.proofs.Lines.{lines-kept}
 use Rattle.outcome.specs.Outcome.{Call, Outcome}
 use Rattle.outcome.specs.Told.{KeepsLines, AllOut, OneMissing, Law}
 use Rattle.outcome.proofs.Law.{law}
-use Rattle.resolver.specs.Resolver.{call, Resolved}
+use Rattle.resolver.specs.declared.Resolving.{Resolving}
+use Rattle.resolver.specs.Resolver.{call, answerOf, Resolved}
 
 -- ---- the pages
 
@@ -27,22 +29,30 @@ page-keeps page = lines-kept (foldOn page) (page-control page 10 (omega arith)) 
 
 -- ---- each cue comes out
 
-module _ {page : ℕ} {book text copy phrase scratch entries : List ℕ} {r : Answer} {copy′ phrase′ scratch′ entries′ : List ℕ} (made : Resolved page book text copy phrase scratch entries r copy′ phrase′ scratch′ entries′) where
+module _ {page : ℕ} {book text copy scratch entries : List ℕ} {r : Resolving} {copy′ scratch′ entries′ : List ℕ} (made : Resolved page book text copy scratch entries r copy′ scratch′ entries′) where
   abbrev called : Call
-  called = call page text copy phrase scratch entries
+  called = call page text copy scratch entries
 
-  pub all-out : r .refusal ≡ 0 → AllOut (foldOn page) text book entries′ (r .number)
-  all-out z = rw (made .answer, made .entered) (page-law page .all-out called book entries refl (sym (ap (λ (a : Answer). a .refusal) (made .answer)) ∙ z))
+  pub all-out : r .refusal ≡ 0 → AllOut (foldOn page) text book entries′ (r .number) (r .reads)
+  all-out z = rw (made .answer, made .entered) (page-law page .all-out called book entries refl (sym (ap (λ (a : Resolving). a .refusal) (made .answer)) ∙ z))
 
-  pub one-missing : r .refusal ≡ 12 → OneMissing (foldOn page) text book entries′ (r .number)
-  one-missing z = rw (made .answer, made .entered) (page-law page .one-missing called book entries refl (sym (ap (λ (a : Answer). a .refusal) (made .answer)) ∙ z))
+  pub one-missing : r .refusal ≡ 12 → OneMissing (foldOn page) text book entries′ (r .number) (r .reads)
+  one-missing z = rw (made .answer, made .entered) (page-law page .one-missing called book entries refl (sym (ap (λ (a : Resolving). a .refusal) (made .answer)) ∙ z))
+
+  -- ---- any other refusal
+
+  pub idle : (r .refusal ≡ 0 → ⊥) → (r .refusal ≡ 12 → ⊥) → (r .reads ≡ 0) × ((copy′ ≡ copy) × ((scratch′ ≡ scratch) × (entries′ ≡ entries)))
+  idle some other =
+      let is = ap (λ (a : Resolving). a .refusal) (made .answer) in
+      let i = page-law page .idle called (readBook book) (λ z. some (is ∙ z)) (λ z. other (is ∙ z)) in
+      (ap (λ (a : Resolving). a .reads) (made .answer) ∙ i .reads, (made .copied ∙ rw (i .works), (made .emptied ∙ rw (i .works), made .entered ∙ rw (i .written) (received-none entries))))
 
   -- ---- a text folded beforehand, in a call otherwise alike, gives the same back and the same entries
 
-  pub folded-before : {r₂ : Answer} {copy₂′ phrase₂′ scratch₂′ entries₂′ : List ℕ} → Resolved page book (map (foldOn page) text) copy phrase scratch entries r₂ copy₂′ phrase₂′ scratch₂′ entries₂′
+  pub folded-before : {r₂ : Resolving} {copy₂′ scratch₂′ entries₂′ : List ℕ} → Resolved page book (map (foldOn page) text) copy scratch entries r₂ copy₂′ scratch₂′ entries₂′
       → (r₂ ≡ r) × (entries₂′ ≡ entries′)
   folded-before again =
       let same = page-law page .same-lines (page-keeps page) called (readBook book) in (
-        again .answer ∙ ap (λ (o : Outcome). record { refusal = o .resolution .refusal; number = o .resolution .number }) same ∙ sym (made .answer),
+        again .answer ∙ ap (λ (o : Outcome). answerOf (o .resolution)) same ∙ sym (made .answer),
         again .entered ∙ ap (λ (o : Outcome). received entries (o .resolution .written)) same ∙ sym (made .entered),
       )

@@ -1,4 +1,7 @@
--- The laws of a call and of the walk over its cues, and demand 2.
+-- The laws of a group as it is gathered, looked for and put, of the walk over the groups, of a call, and demand 2.
+pub mod Gathering
+pub mod Searching
+pub mod Putting
 pub mod Walking
 pub mod Calls
 pub mod Demand2

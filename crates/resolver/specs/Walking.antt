@@ -1,31 +1,166 @@
--- What the resolver asks of its walk over the cues. Not part of any public promise.
+-- What the resolver asks of its walk over the groups of a book's cues. Not part of any public promise.
 use mathlib.Core.Path.{_≡_}
-use Prim.Native.Nat.{ℕ, _*_, _≤_}
-use mathlib.Core.Bool.{true}
-use mathlib.Core.List.{List, map}
-use lib.ListN.{length}
-use Rattle.matching.specs.Received.{received}
+use Prim.Native.Nat.{ℕ, _+_, _-_, _*_, _≤_}
+use mathlib.Core.Bool.{true, false, cond}
+use mathlib.Core.List.{List, [], _∷_, _++_, map}
+use lib.ListN.{length, getD, take, drop, replicate}
+use lib.Dec.{eqb}
+use Rattle.matching.specs.Received.{received, receivedFrom}
 use Rattle.fold.specs.Fold.{isPage, foldOn}
-use Rattle.matching.specs.declared.Answer.{Answer}
-use Rattle.cue_book.specs.Reading.{cues, readBook, cuesIn}
-use Rattle.outcome.specs.Outcome.{chosen, Resolution, resolution}
+use Rattle.cues.specs.Cue.{Cue}
+use Rattle.cue_book.specs.Reading.{cues, readUpTo, readBook, cuesIn}
+use Rattle.line_column.specs.declared.LineColumn.{LineColumn}
+use Rattle.line_column.specs.LineColumn.{lineColumn}
+use Rattle.outcome.specs.Outcome.{chosen, isThere, placeOf, entriesOf, Resolution, resolution}
+use Rattle.outcome.specs.Told.{AllThere, placesOf, Group}
+use Rattle.resolver.specs.declared.Resolving.{Resolving}
+use Rattle.resolver.specs.Resolver.{answerOf}
+use Rattle.resolver.specs.declared.CuesRead.{CuesRead}
+use Rattle.resolver.specs.declared.GroupFound.{GroupFound}
+use Rattle.resolver.specs.declared.EntriesPut.{EntriesPut}
+use Rattle.resolver.specs.declared.GroupResolved.{GroupResolved}
 
--- every test before 12 was passed, and the text is folded
-pub record Ready (page : ℕ) (book : List ℕ) (count : ℕ) (text copy phrase scratch entries : List ℕ) : Type 0 where
+-- ---- where a walk stands in the book
+
+-- the cues that are left at a place, the first with that index
+abbrev pub restAt : List ℕ → ℕ → ℕ → List Cue
+restAt book index place = cuesIn (readUpTo (999 - index) index (drop place book))
+
+-- the book was read, and at a place these are left
+pub record CuesLeft (book : List ℕ) (index place : ℕ) (rest : List Cue) : Type 0 where
+  pub few : index ≤ 999
+  pub reads : readUpTo (999 - index) index (drop place book) ≡ cues rest
+
+-- so many, at least one
+pub record Remaining (book : List ℕ) (index rest place : ℕ) : Type 0 where
+  pub left : CuesLeft book index place (restAt book index place)
+  pub number : rest ≡ length (restAt book index place)
+  pub some : 1 ≤ rest
+
+-- the next group: so many cues, and the place after them
+pub record NextGroup (book : List ℕ) (index place count end : ℕ) : Type 0 where
+  pub group : List Cue
+  pub later : List Cue
+  pub split : restAt book index place ≡ group ++ later
+  pub grouped : Group group later
+  pub counted : count ≡ length group
+  pub left : CuesLeft book (index + count) end later
+
+-- ---- the next group's cues, as they stand in the book
+
+pub record Held (book : List ℕ) : Type 0 where
+  pub start : ℕ
+  pub cue : Cue
+  pub letters : take (length (cue .phrase)) (drop start book) ≡ cue .phrase
+  pub inside : start + length (cue .phrase) ≤ length book
+  pub some : 1 ≤ length (cue .phrase)
+  pub named : 1 ≤ cue .ordinal
+
+module _ {book : List ℕ} where
+  abbrev pub cuesHeld : List (Held book) → List Cue
+  cuesHeld hs = map (λ h. h .cue) hs
+
+  abbrev pub startsOf : List (Held book) → List ℕ
+  startsOf hs = map (λ h. h .start) hs
+
+  abbrev pub lensOf : List (Held book) → List ℕ
+  lensOf hs = map (λ h. length (h .cue .phrase)) hs
+
+  abbrev pub ordinalsOf : List (Held book) → List ℕ
+  ordinalsOf hs = map (λ h. h .cue .ordinal) hs
+
+-- three arrays with room for 64
+pub record Gatherable (book : List ℕ) (index rest place : ℕ) (starts lens ordinals : List ℕ) : Type 0 where
+  pub remaining : Remaining book index rest place
+  pub starts-room : 64 ≤ length starts
+  pub lens-room : 64 ≤ length lens
+  pub ordinals-room : 64 ≤ length ordinals
+
+-- their first entries are the group's
+pub record Gathered (book : List ℕ) (index place : ℕ) (r : CuesRead) (starts′ lens′ ordinals′ : List ℕ) : Type 0 where
+  pub next : NextGroup book index place (r .count) (r .end)
+  pub held : List (Held book)
+  pub cues : next .group ≡ cuesHeld held
+  pub starts : take (r .count) starts′ ≡ startsOf held
+  pub lens : take (r .count) lens′ ≡ lensOf held
+  pub ordinals : take (r .count) ordinals′ ≡ ordinalsOf held
+
+-- ---- the walk of a group
+
+pub record Searchable (page : ℕ) (book : List ℕ) (index rest place : ℕ) (copy scratch left places : List ℕ) : Type 0 where
+  pub remaining : Remaining book index rest place
+  pub known : isPage page ≡ true
+  pub small : length copy ≤ 32768
+  pub room : 65535 ≤ length scratch
+  pub left-room : 64 ≤ length left
+  pub places-room : 64 ≤ length places
+
+-- of each cue: nothing is left, and its occurrence in the folded text exists and stands at that place; or something is, and it does not exist
+pub record Told (f : ℕ → ℕ) (text left places : List ℕ) (group : List Cue) : Type 0 where
+  pub found : (before : List Cue) (c : Cue) (later : List Cue) → group ≡ before ++ c ∷ later → getD left (length before) 0 ≡ 0 → (isThere f text c ≡ true) × (getD places (length before) 0 ≡ placeOf f text c)
+  pub missing : (before : List Cue) (c : Cue) (later : List Cue) → group ≡ before ++ c ∷ later → 1 ≤ getD left (length before) 0 → isThere f text c ≡ false
+
+-- every letter was read once, the scratch is 0 throughout, and of whatever text the copy is the folding, its cues are told
+pub record Searched (page : ℕ) (book : List ℕ) (index place : ℕ) (copy scratch : List ℕ) (r : GroupFound) (scratch′ left′ places′ : List ℕ) : Type 0 where
+  pub next : NextGroup book index place (r .count) (r .end)
+  pub reads : r .reads ≡ length copy
+  pub emptied : scratch′ ≡ replicate (length scratch) 0
+  pub lefts : length (take (r .count) left′) ≡ r .count
+  pub places : length (take (r .count) places′) ≡ r .count
+  pub told : (text : List ℕ) → copy ≡ map (foldOn page) text → Told (foldOn page) text (take (r .count) left′) (take (r .count) places′) (next .group)
+
+-- ---- the entries of a group
+
+-- the places before the first cue that was not found
+unfoldable pub passing : List ℕ → List ℕ → List ℕ
+passing [] places = []
+passing (l ∷ left) [] = []
+passing (l ∷ left) (p ∷ places) = cond (eqb l 0) (p ∷ passing left places) []
+
+pub record Put (text : List ℕ) (at : ℕ) (left places entries : List ℕ) (r : EntriesPut) (entries′ : List ℕ) : Type 0 where
+  pub counted : r .count ≡ length (passing left places)
+  pub entered : entries′ ≡ receivedFrom at entries (entriesOf text (passing left places))
+  pub spot : r .spot ≡ lineColumn text (r .known)
+
+-- ---- a group resolved
+
+pub record Begun (page : ℕ) (book : List ℕ) (index rest place : ℕ) (text copy scratch : List ℕ) (known : ℕ) (told : LineColumn) : Type 0 where
+  pub remaining : Remaining book index rest place
+  pub known-page : isPage page ≡ true
+  pub small : length text ≤ 32768
+  pub copied : copy ≡ map (foldOn page) text
+  pub room : 65535 ≤ length scratch
+  pub spot : told ≡ lineColumn text known
+
+-- the cues before the first one that is missing, and their entries
+pub record Grouped (page : ℕ) (book : List ℕ) (index place : ℕ) (text scratch entries : List ℕ) (r : GroupResolved) (scratch′ entries′ : List ℕ) : Type 0 where
+  pub next : NextGroup book index place (r .count) (r .end)
+  pub most : r .put ≤ r .count
+  pub there : AllThere (foldOn page) text (take (r .put) (next .group))
+  pub missing : (before : List Cue) (c : Cue) (later : List Cue) → next .group ≡ before ++ c ∷ later → r .put ≡ length before → isThere (foldOn page) text c ≡ false
+  pub entered : entries′ ≡ receivedFrom (3 * index) entries (entriesOf text (placesOf (foldOn page) text (take (r .put) (next .group))))
+  pub reads : r .reads ≡ length text
+  pub emptied : scratch′ ≡ replicate (length scratch) 0
+  pub spot : r .spot ≡ lineColumn text (r .known)
+
+-- ---- all groups
+
+-- every test before 12 was passed, there is a cue, and the text is folded
+pub record Ready (page : ℕ) (book : List ℕ) (count : ℕ) (text copy scratch entries : List ℕ) : Type 0 where
   pub read : readBook book ≡ cues (cuesIn (readBook book))
   pub number : count ≡ length (cuesIn (readBook book))
-  pub three : 3 * length (cuesIn (readBook book)) ≤ length entries
+  pub some : 1 ≤ count
   pub known : isPage page ≡ true
   pub small : length text ≤ 32768
   pub copied : copy ≡ map (foldOn page) text
-  pub buffer : 1024 ≤ length phrase
-  pub tables : 1281 ≤ length scratch
+  pub room : 65535 ≤ length scratch
 
 -- what the book's cues resolve to
-abbrev pub resolves : (ℕ → ℕ) → List ℕ → List ℕ → Resolution
-resolves f book text = resolution f text (chosen (cuesIn (readBook book)))
+abbrev pub resolves : ℕ → List ℕ → List ℕ → Resolution
+resolves page book text = resolution (foldOn page) text (chosen (cuesIn (readBook book)))
 
--- the answer, and the entries
-pub record Placed (f : ℕ → ℕ) (book text entries : List ℕ) (r : Answer) (entries′ : List ℕ) : Type 0 where
-  pub answer : r ≡ record { refusal = resolves f book text .refusal; number = resolves f book text .number }
-  pub entered : entries′ ≡ received entries (resolves f book text .written)
+-- the answer, the scratch and the entries
+pub record Placed (page : ℕ) (book text scratch entries : List ℕ) (r : Resolving) (scratch′ entries′ : List ℕ) : Type 0 where
+  pub answer : r ≡ answerOf (resolves page book text)
+  pub emptied : scratch′ ≡ replicate (length scratch) 0
+  pub entered : entries′ ≡ received entries (resolves page book text .written)

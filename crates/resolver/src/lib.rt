@@ -1,49 +1,144 @@
-// The resolver (document 01, "Cue book, folding, lines"; document 02, (iv)): from the cues of a book to place, line and column, as `outcome` defines it.
-// It depends on `cue_fields`, `cues` and `cue_book` for the cues, on `fold`, on `fjs_steps` and `fjs` for the occurrence that a cue names, on `line_column` for the line rule, on `tables` to
-// clear the scratch, and on `matching` for the laws of lent lists and of occurrences.
+// The resolver (document 01, "Cue book, folding, lines"; document 02, (iv) and (vi)): from the cues of a book to place, line and column, as `outcome` defines it. The cues are resolved in groups, and each
+// group walks the folded text once.
+// It depends on `cue_fields`, `cues` and `cue_book` for the cues, on `fold`, on `phrases` and `automaton` for the walk of a group, on `line_column` for the line rule, on `tables` to clear the scratch,
+// and on `matching` for the laws of lent lists and of occurrences.
 use cues::CueAnswer;
-use fjs::Place;
 use line_column::LineColumn;
-use matching::Answer;
 ghost use mathlib.Core.Path.{_≡_};
-ghost use mathlib.Core.Bool.{true};
-ghost use mathlib.Core.List.{map};
-ghost use Prim.Native.Nat.{_+_, _≤_};
-ghost use lib.ListN.{length, set, replicate};
-ghost use Rattle.matching.specs.Occurrences.{occurrences};
-ghost use Rattle.fold.specs.Fold.{isPage, foldOn};
-ghost use Rattle.fjs.specs.Nth.{nthOf};
+ghost use Prim.Native.Nat.{_+_, _*_, _≤_, min};
+ghost use lib.ListN.{length, set};
 ghost use Rattle.line_column.specs.LineColumn.{lineColumn};
 ghost use Rattle.resolver.specs.Resolver.{Resolved};
-ghost use Rattle.resolver.specs.Walking.{Ready, Placed};
+ghost use Rattle.resolver.specs.Walking.{Gatherable, Gathered, Searchable, Searched, Put, Begun, Grouped, Ready, Placed};
 
-// Makes every byte 0.
-fn clear_bytes(bytes: &mut [u8])
-    ensures { λ _. ⌜ now (bytes .exit) ≡ replicate (length (now (bytes .entry))) 0 ⌝ }
-{
-    let mut i = 0;
-    while i < bytes.len() {
-        bytes[i] = 0;
-        i += 1;
-    }
+// What resolving gives back: a refusal or 0, its number, and how many letters of the text were read.
+#[repr(C)]
+pub struct Resolving {
+    pub refusal: u32,
+    pub number: u32,
+    pub reads: u32,
 }
 
-// Where the occurrence that a cue names stands: its phrase is folded into the buffer, and the search stops there.
-fn find_cue(
-    page: u32,
-    letters: &[u8],
-    ordinal: u32,
-    copy: &[u8],
-    phrase: &mut [u8],
-    scratch: &mut [u16],
-) -> Place
-    requires { ⌜ (isPage page ≡ true) × ((1 ≤ length (now letters)) × (length (now letters) ≤ 1024)) ⌝ }
-    requires { ⌜ (length (now copy) ≤ 32768) × ((1024 ≤ length (now phrase)) × (1281 ≤ length (now scratch))) ⌝ }
-    ensures { λ r. ⌜ r ≡ nthOf (occurrences (map (foldOn page) (now (letters .entry))) (now (copy .entry))) ordinal ⌝ }
+// A group as it was read from the book: how many cues it has, and the place after them.
+struct CuesRead {
+    count: usize,
+    end: usize,
+}
+
+// A group whose cues were looked for: how many it has, the place after them in the book, and the letters of the text that were read.
+struct GroupFound {
+    count: usize,
+    end: usize,
+    reads: usize,
+}
+
+// A group's entries as they were put: for how many cues, and the last place with its line and column.
+struct EntriesPut {
+    count: usize,
+    known: u32,
+    spot: LineColumn,
+}
+
+// A group that was resolved: how many cues it has, the place after them in the book, the letters of the text that were read, for how many cues entries were put, and the last place with its line and
+// column.
+struct GroupResolved {
+    count: usize,
+    end: usize,
+    reads: usize,
+    put: usize,
+    known: u32,
+    spot: LineColumn,
+}
+
+// How many cues a group may have, where so many are left.
+fn most_cues(rest: usize) -> usize
+    ensures { λ r. ⌜ r ≡ min rest 64 ⌝ }
 {
-    fold::letters(page, letters, phrase);
-    let m = letters.len();
-    fjs::nth(&phrase[..m], copy, scratch, ordinal)
+    if 64 < rest {
+        return 64;
+    }
+    rest
+}
+
+// Reads the next group from the book, of which so many cues are left at a place: where each phrase starts, its length, and the cue's ordinal. A cue that would be the 65th, or pass 4,096 phrase bytes, is
+// left for the next group.
+fn gather(
+    book: &[u8],
+    index: usize,
+    rest: usize,
+    place: usize,
+    starts: &mut [usize],
+    lens: &mut [usize],
+    ordinals: &mut [u32],
+) -> CuesRead
+    requires { ⌜ Gatherable (now book) index rest place (now starts) (now lens) (now ordinals) ⌝ }
+    ensures { λ r. ⌜ Gathered (now (book .entry)) index place r (now (starts .exit)) (now (lens .exit)) (now (ordinals .exit)) ⌝ }
+{
+    let most = most_cues(rest);
+    let mut count = 0;
+    let mut letters = 0;
+    let mut end = place;
+    while count < most {
+        let cue = cues::read_cue(book, end);
+        let CueAnswer::Cue {
+            phrase: start,
+            phrase_end: stop,
+            ordinal,
+            title: _,
+            end: next,
+        } = cue
+        else {
+            // the whole book was read before, so every cue is
+            return CuesRead { count, end };
+        };
+        let len = stop - start;
+        letters += len;
+        if 4096 < letters {
+            return CuesRead { count, end };
+        }
+        starts[count] = start;
+        lens[count] = len;
+        ordinals[count] = ordinal;
+        count += 1;
+        end = next;
+    }
+    CuesRead { count, end }
+}
+
+// Looks for the next group's cues in the folded text, in one walk. For each cue it leaves how many occurrences are missing up to the one that it names, 0 where that one was found, and its place.
+fn find_group(
+    page: u32,
+    book: &[u8],
+    index: usize,
+    rest: usize,
+    place: usize,
+    copy: &[u8],
+    scratch: &mut [u16],
+    left: &mut [u32],
+    places: &mut [u32],
+) -> GroupFound
+    requires { ⌜ Searchable page (now book) index rest place (now copy) (now scratch) (now left) (now places) ⌝ }
+    ensures { λ r. ⌜ Searched page (now (book .entry)) index place (now (copy .entry)) (now (scratch .entry)) r (now (scratch .exit)) (now (left .exit)) (now (places .exit)) ⌝ }
+{
+    let mut starts = [0; 64];
+    let mut lens = [0; 64];
+    let cues = gather(book, index, rest, place, &mut starts, &mut lens, left);
+    let count = cues.count;
+    let walked = automaton::locate(
+        page,
+        book,
+        &starts[..count],
+        &lens[..count],
+        copy,
+        scratch,
+        &mut left[..count],
+        &mut places[..count],
+    );
+    GroupFound {
+        count,
+        end: cues.end,
+        reads: walked.reads,
+    }
 }
 
 // Puts a cue's three entries: place, line, column. Line and column are counted on from those of a known place, and given back for the next cue.
@@ -73,100 +168,195 @@ fn put_entries(
     spot
 }
 
-// Resolves cue by cue, reading the book's cues once more, up to the first one whose occurrence does not exist.
-fn resolve_cues(
-    page: u32,
-    book: &[u8],
-    cues: u32,
-    text: &[u8],
-    copy: &[u8],
-    phrase: &mut [u8],
-    scratch: &mut [u16],
+// Puts the entries of a group's cues, up to the first one that was not found: one with occurrences missing.
+fn put_group(
     entries: &mut [u32],
-) -> Answer
-    requires { ⌜ Ready page (now book) cues (now text) (now copy) (now phrase) (now scratch) (now entries) ⌝ }
-    ensures { λ r. ⌜ Placed (foldOn page) (now (book .entry)) (now (text .entry)) (now (entries .entry)) r (now (entries .exit)) ⌝ }
+    at: usize,
+    text: &[u8],
+    left: &[u32],
+    places: &[u32],
+    known: u32,
+    told: LineColumn,
+) -> EntriesPut
+    requires { ⌜ (at + 3 * length (now left) ≤ 3000) × ((length (now left) ≡ length (now places)) × ((length (now text) ≤ 32768) × (told ≡ lineColumn (now text) known))) ⌝ }
+    ensures { λ r. ⌜ Put (now (text .entry)) at (now (left .entry)) (now (places .entry)) (now (entries .entry)) r (now (entries .exit)) ⌝ }
 {
-    let mut index = 0;
-    let mut at = 0;
-    let mut place = 0;
-    let mut known = 0;
-    let mut spot = LineColumn { line: 1, column: 1 };
-    while index < cues {
-        let cue = cues::read_cue(book, place);
-        let CueAnswer::Cue {
-            phrase: start,
-            phrase_end: stop,
-            ordinal,
-            title: _,
-            end,
-        } = cue
-        else {
-            // the whole book was read before, so every cue is
-            return Answer {
-                refusal: 7,
-                number: index,
+    let mut last = known;
+    let mut spot = told;
+    let mut count = 0;
+    while count < left.len() {
+        if left[count] != 0 {
+            return EntriesPut {
+                count,
+                known: last,
+                spot,
             };
-        };
-        let found = find_cue(page, &book[start..stop], ordinal, copy, phrase, scratch);
-        let Place::At(position) = found else {
-            return Answer {
-                refusal: 12,
-                number: index,
-            };
-        };
-        spot = put_entries(entries, at, text, position, known, spot);
-        known = position;
-        index += 1;
-        at += 3;
-        place = end;
+        }
+        let place = places[count];
+        spot = put_entries(entries, at + 3 * count, text, place, last, spot);
+        last = place;
+        count += 1;
     }
-    Answer {
-        refusal: 0,
-        number: index,
+    EntriesPut {
+        count,
+        known: last,
+        spot,
     }
 }
 
-// Resolves the cues of a book in a text, both folded by a page: 0 and the number of cues, or the refusal and its number.
+// Resolves the next group, up to the first of its cues whose occurrence does not exist.
+fn resolve_group(
+    page: u32,
+    book: &[u8],
+    index: usize,
+    rest: usize,
+    place: usize,
+    text: &[u8],
+    copy: &[u8],
+    scratch: &mut [u16],
+    entries: &mut [u32],
+    known: u32,
+    told: LineColumn,
+) -> GroupResolved
+    requires { ⌜ Begun page (now book) index rest place (now text) (now copy) (now scratch) known told ⌝ }
+    ensures { λ r. ⌜ Grouped page (now (book .entry)) index place (now (text .entry)) (now (scratch .entry)) (now (entries .entry)) r (now (scratch .exit)) (now (entries .exit)) ⌝ }
+{
+    let mut left = [0; 64];
+    let mut places = [0; 64];
+    let group = find_group(
+        page,
+        book,
+        index,
+        rest,
+        place,
+        copy,
+        scratch,
+        &mut left,
+        &mut places,
+    );
+    let count = group.count;
+    let put = put_group(
+        entries,
+        3 * index,
+        text,
+        &left[..count],
+        &places[..count],
+        known,
+        told,
+    );
+    let spot = put.spot;
+    GroupResolved {
+        count,
+        end: group.end,
+        reads: group.reads,
+        put: put.count,
+        known: put.known,
+        spot,
+    }
+}
+
+// Resolves group by group, reading the book's cues once more, up to the first cue whose occurrence does not exist.
+fn resolve_groups(
+    page: u32,
+    book: &[u8],
+    cues: usize,
+    text: &[u8],
+    copy: &[u8],
+    scratch: &mut [u16],
+    entries: &mut [u32],
+) -> Resolving
+    requires { ⌜ Ready page (now book) cues (now text) (now copy) (now scratch) (now entries) ⌝ }
+    ensures { λ r. ⌜ Placed page (now (book .entry)) (now (text .entry)) (now (scratch .entry)) (now (entries .entry)) r (now (scratch .exit)) (now (entries .exit)) ⌝ }
+{
+    let mut index = 0;
+    let mut place = 0;
+    let mut reads = 0;
+    let mut known = 0;
+    let mut spot = LineColumn { line: 1, column: 1 };
+    while index < cues {
+        let g = resolve_group(
+            page,
+            book,
+            index,
+            cues - index,
+            place,
+            text,
+            copy,
+            scratch,
+            entries,
+            known,
+            spot,
+        );
+        let walked = reads + g.reads;
+        index += g.put;
+        if g.put < g.count {
+            let number = index as u32;
+            let total = walked as u32;
+            return Resolving {
+                refusal: 12,
+                number,
+                reads: total,
+            };
+        }
+        reads = walked;
+        place = g.end;
+        known = g.known;
+        spot = g.spot;
+    }
+    let number = index as u32;
+    let total = reads as u32;
+    Resolving {
+        refusal: 0,
+        number,
+        reads: total,
+    }
+}
+
+// Resolves the cues of a book in a text, both folded by a page: 0 and the number of cues, or the refusal and its number; and the letters that were read.
 pub fn resolve(
     page: u32,
     book: &[u8],
     text: &[u8],
     copy: &mut [u8],
-    phrase: &mut [u8],
     scratch: &mut [u16],
     entries: &mut [u32],
-) -> Answer
-    ensures { λ r. ⌜ Resolved page (now (book .entry)) (now (text .entry)) (now (copy .entry)) (now (phrase .entry)) (now (scratch .entry)) (now (entries .entry)) r (now (copy .exit)) (now (phrase .exit)) (now (scratch .exit)) (now (entries .exit)) ⌝ }
+) -> Resolving
+    ensures { λ r. ⌜ Resolved page (now (book .entry)) (now (text .entry)) (now (copy .entry)) (now (scratch .entry)) (now (entries .entry)) r (now (copy .exit)) (now (scratch .exit)) (now (entries .exit)) ⌝ }
 {
     let n = text.len();
-    let refusal = outcome::refused(page, n, copy.len(), phrase.len(), scratch.len());
+    let refusal = outcome::refused(page, n, copy.len(), scratch.len());
     if refusal != 0 {
-        return Answer { refusal, number: 0 };
+        return Resolving {
+            refusal,
+            number: 0,
+            reads: 0,
+        };
     }
     let read = cue_book::read_book(book);
     if read.refusal != 0 {
-        return read;
+        return Resolving {
+            refusal: read.refusal,
+            number: read.number,
+            reads: 0,
+        };
     }
     let cues = read.number as usize;
     if entries.len() < 3 * cues {
-        return Answer {
+        return Resolving {
             refusal: 11,
             number: 0,
+            reads: 0,
         };
     }
     fold::letters(page, text, copy);
-    let r = resolve_cues(
-        page,
-        book,
-        read.number,
-        text,
-        &copy[..n],
-        phrase,
-        scratch,
-        entries,
-    );
-    clear_bytes(phrase);
-    tables::set_all(scratch, 0);
-    r
+    if cues == 0 {
+        // no walk clears the scratch
+        tables::set_all(scratch, 0);
+        return Resolving {
+            refusal: 0,
+            number: 0,
+            reads: 0,
+        };
+    }
+    resolve_groups(page, book, cues, text, &copy[..n], scratch, entries)
 }

@@ -1,6 +1,6 @@
 //! The C interface of the library, and the only unsafe code of this crate: one declaration and one call for each function.
 
-use crate::{RawAnswer, RawCue, RawField, RawFinding, RawFolding, RawMovesFinding, RawPart, ResolverMemory};
+use crate::{RawAnswer, RawCue, RawField, RawFinding, RawFolding, RawMovesFinding, RawPart, RawResolving, ResolverMemory};
 
 extern "C" {
     fn libretto_find(
@@ -73,13 +73,11 @@ extern "C" {
         text_len: usize,
         copy: *mut u8,
         copy_len: usize,
-        phrase: *mut u8,
-        phrase_len: usize,
         scratch: *mut u16,
         scratch_len: usize,
         entries: *mut u32,
         entries_len: usize,
-    ) -> RawAnswer;
+    ) -> RawResolving;
 }
 
 /// Calls `libretto_find` on slices.
@@ -199,11 +197,11 @@ pub(crate) fn write_cue(buffer: &mut [u8], phrase: &[u8], ordinal: u32, title: &
 }
 
 /// Calls `libretto_resolve` on slices.
-pub(crate) fn resolve(page: u32, book: &[u8], text: &[u8], memory: &mut ResolverMemory<'_>) -> RawAnswer {
+pub(crate) fn resolve(page: u32, book: &[u8], text: &[u8], memory: &mut ResolverMemory<'_>) -> RawResolving {
     // SAFETY: each pointer comes from a slice and stands beside that slice's own length, so it is aligned, not null (also where the slice is
-    // empty), and valid for as many entries: for reading with book and text, for reading and writing with the four slices of the memory. The
-    // exclusive borrows keep those four apart from each other and from book and text, and all six borrows outlive the call, which keeps no pointer.
-    // The library accepts any page number, any bytes and any lengths. `RawAnswer` has the layout of the C structure (`repr(C)`, two `u32`).
+    // empty), and valid for as many entries: for reading with book and text, for reading and writing with the three slices of the memory. The
+    // exclusive borrows keep those three apart from each other and from book and text, and all five borrows outlive the call, which keeps no pointer.
+    // The library accepts any page number, any bytes and any lengths. `RawResolving` has the layout of the C structure (`repr(C)`, three `u32`).
     unsafe {
         libretto_resolve(
             page,
@@ -213,8 +211,6 @@ pub(crate) fn resolve(page: u32, book: &[u8], text: &[u8], memory: &mut Resolver
             text.len(),
             memory.copy.as_mut_ptr(),
             memory.copy.len(),
-            memory.phrase.as_mut_ptr(),
-            memory.phrase.len(),
             memory.scratch.as_mut_ptr(),
             memory.scratch.len(),
             memory.entries.as_mut_ptr(),

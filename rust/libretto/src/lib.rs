@@ -7,8 +7,8 @@
 //! replaced from its list for the old one.
 //!
 //! A cue book is 0 to 999 cues, each with a phrase, an ordinal and a title: [`write_cue`] writes one, [`read_cue`] reads one, [`read_book`] tests a
-//! whole book, and [`title`] shows a title where it stands. [`resolve`] finds the place, line and column of each cue in a text, in lent memory too;
-//! [`resolve_all`] lends it itself.
+//! whole book, and [`title`] shows a title where it stands. [`resolve`] finds the place, line and column of each cue in a text, in lent memory too,
+//! and reads the text once for each group of cues; [`resolve_all`] lends the memory itself.
 //!
 //! ```
 //! use libretto::{find, find_all, Finding, Method, Refusal};
@@ -49,7 +49,7 @@ pub use late_cuts::{relist, relist_all, relist_raw};
 pub use moves::{find_moves, find_moves_all, find_moves_raw, Move, MovesFinding, RawMovesFinding, Rule, MOVE_ENTRIES};
 pub use refusal::{RawAnswer, Refusal};
 pub use resolver::{resolve, resolve_all, resolve_raw};
-pub use resolver::{CuePlace, ResolveError, ResolverMemory, CUE_ENTRIES, PHRASE_BUFFER, RESOLVER_SCRATCH};
+pub use resolver::{CuePlace, RawResolving, ResolveError, ResolverMemory, Resolving, CUE_ENTRIES, RESOLVER_SCRATCH};
 
 /// The longest phrase of a find and of a cue, in bytes.
 pub const PHRASE_MAX: usize = 1024;

@@ -18,7 +18,7 @@ pub enum Refusal {
     LongText = 4,
     /// The scratch has fewer entries than the method or the resolver needs.
     ShortScratch = 5,
-    /// The resolver's text copy is shorter than the text, or its phrase buffer has fewer than 1,024 bytes.
+    /// The resolver's text copy is shorter than the text.
     ShortBuffer = 6,
     /// The book ends inside a field.
     CutField = 7,
@@ -94,7 +94,7 @@ impl fmt::Display for Refusal {
             Refusal::LongPhrase => "the phrase has more than 1,024 bytes",
             Refusal::LongText => "the text has more than 32,768 bytes",
             Refusal::ShortScratch => "the scratch has fewer entries than the method or the resolver needs",
-            Refusal::ShortBuffer => "the text copy is shorter than the text, or the phrase buffer has fewer than 1,024 bytes",
+            Refusal::ShortBuffer => "the text copy is shorter than the text",
             Refusal::CutField => "the book ends inside a field",
             Refusal::WrongTag => "a field's tag is not the one due",
             Refusal::BadField => "a field's length is not allowed, or the ordinal is not from 1 to 65,535",

@@ -1,17 +1,14 @@
 //! The resolver: from the cues of a book to their places in a text.
 
-use crate::{ffi, read_book, Page, RawAnswer, Refusal, TEXT_MAX};
+use crate::{ffi, read_book, Page, Refusal, TEXT_MAX};
 use std::error::Error;
 use std::fmt;
 
 /// The entries that the resolver writes for each cue: place, line and column.
 pub const CUE_ENTRIES: usize = 3;
 
-/// The scratch entries that the resolver needs.
-pub const RESOLVER_SCRATCH: usize = 1281;
-
-/// The bytes that the resolver's phrase buffer needs.
-pub const PHRASE_BUFFER: usize = 1024;
+/// The scratch entries that the resolver needs, the same for all calls.
+pub const RESOLVER_SCRATCH: usize = 65_535;
 
 /// Where a cue stands in the text.
 #[derive(Clone, Copy, Debug, PartialEq, Eq, Hash)]
@@ -29,12 +26,32 @@ pub struct CuePlace {
 pub struct ResolverMemory<'a> {
     /// At least as long as the text. Afterwards its front is the folded text, and its bytes past that keep their values.
     pub copy: &'a mut [u8],
-    /// At least [`PHRASE_BUFFER`] bytes. Afterwards it is 0 throughout.
-    pub phrase: &'a mut [u8],
-    /// At least [`RESOLVER_SCRATCH`] entries. Afterwards it is 0 throughout.
+    /// At least [`RESOLVER_SCRATCH`] entries. More are used too, for more rows of a group's table, which changes nothing but the time. Afterwards it is
+    /// 0 throughout.
     pub scratch: &'a mut [u16],
     /// At least [`CUE_ENTRIES`] for each cue, which are then the cue's place, line and column. Entries past those keep their values.
     pub entries: &'a mut [u32],
+}
+
+/// What the resolver gives back if it did not refuse.
+#[derive(Clone, Copy, Debug, PartialEq, Eq, Hash)]
+pub struct Resolving {
+    /// The number of cues.
+    pub cues: usize,
+    /// The letters of the text that were read: as many as it has, for each group of cues.
+    pub reads: u32,
+}
+
+/// What the resolver gives back, as it stands in the C interface.
+#[derive(Clone, Copy, Debug, PartialEq, Eq, Hash)]
+#[repr(C)]
+pub struct RawResolving {
+    /// The refusal's number; 0 if the call was not refused.
+    pub refusal: u32,
+    /// The number of cues, or the index of the cue that was refused, or 0 where no cue was.
+    pub number: u32,
+    /// The letters of the text that were read; 0 if the call was refused, except with 12, where the group of the refused cue was read too.
+    pub reads: u32,
 }
 
 /// Why the resolver refused a call, and at which cue.
@@ -57,30 +74,36 @@ impl fmt::Display for ResolveError {
 
 impl Error for ResolveError {}
 
-/// Finds the place of each cue of a book in the text and gives the number of cues. The place is that of the occurrence which the cue's ordinal counts,
-/// from 1, of its folded phrase in the folded text, overlapping ones included. Both are folded by the page, as [`fold`](crate::fold) does; a text that
-/// was folded by it beforehand gives the same places, lines and columns.
+/// Finds the place of each cue of a book in the text and gives the number of cues, with the letters that were read. The place is that of the occurrence
+/// which the cue's ordinal counts, from 1, of its folded phrase in the folded text, overlapping ones included. Both are folded by the page, as
+/// [`fold`](crate::fold) does; a text that was folded by it beforehand gives the same places, lines and columns.
+///
+/// The cues are resolved in groups: consecutive cues, as many as fit into 64 cues and 4,096 phrase bytes. The phrases of a group are found together, by
+/// one walk over the text that reads each of its letters once.
 ///
 /// A refused call leaves the lent memory as it was, except with [`Refusal::NoOccurrence`]: then the entries of the cues before the refused one are
 /// written, its own and the later ones keep their values, and the rest is as after success.
 ///
 /// ```
-/// use libretto::{resolve, Page, Refusal, ResolveError, ResolverMemory, PHRASE_BUFFER, RESOLVER_SCRATCH};
+/// use libretto::{resolve, Page, Refusal, ResolveError, ResolverMemory, Resolving, RESOLVER_SCRATCH};
 ///
 /// let book = b"\x01\x00\x02la\x02\x00\x02\x00\x02\x03\x00\x02No";
-/// let (mut copy, mut phrase, mut scratch, mut entries) = ([0; 5], [0; PHRASE_BUFFER], [0; RESOLVER_SCRATCH], [0; 3]);
-/// let mut memory = ResolverMemory { copy: &mut copy, phrase: &mut phrase, scratch: &mut scratch, entries: &mut entries };
+/// let (mut copy, mut scratch, mut entries) = ([0; 5], vec![0; RESOLVER_SCRATCH], [0; 3]);
+/// let mut memory = ResolverMemory { copy: &mut copy, scratch: &mut scratch, entries: &mut entries };
 ///
-/// assert_eq!(resolve(Page::Latin1, book, b"LA\nla", &mut memory), Ok(1));
+/// assert_eq!(resolve(Page::Latin1, book, b"LA\nla", &mut memory), Ok(Resolving { cues: 1, reads: 5 }));
 /// assert_eq!((&*memory.entries, &*memory.copy), (&[3, 2, 1][..], &b"la\nla"[..]));
 ///
 /// let missing = ResolveError { refusal: Refusal::NoOccurrence, cue: Some(0) };
 /// assert_eq!(resolve(Page::Latin1, book, b"la", &mut memory), Err(missing));
 /// ```
-pub fn resolve(page: Page, book: &[u8], text: &[u8], memory: &mut ResolverMemory<'_>) -> Result<usize, ResolveError> {
+pub fn resolve(page: Page, book: &[u8], text: &[u8], memory: &mut ResolverMemory<'_>) -> Result<Resolving, ResolveError> {
     let raw = resolve_raw(page.number(), book, text, memory);
     let number = raw.number as usize;
-    Refusal::check(raw.refusal).map(|()| number).map_err(|refusal| ResolveError { refusal, cue: names_a_cue(refusal).then_some(number) })
+    match Refusal::check(raw.refusal) {
+        Ok(()) => Ok(Resolving { cues: number, reads: raw.reads }),
+        Err(refusal) => Err(ResolveError { refusal, cue: names_a_cue(refusal).then_some(number) }),
+    }
 }
 
 /// Whether the number of a refused call is a cue's index: not where the text, the page or the lent memory was refused.
@@ -88,17 +111,23 @@ fn names_a_cue(refusal: Refusal) -> bool {
     !matches!(refusal, Refusal::LongText | Refusal::ShortScratch | Refusal::UnknownPage | Refusal::ShortBuffer | Refusal::ShortEntries)
 }
 
-/// [`resolve`] with a page number, which need not be that of a page, and with the refusal's number in place of a [`Refusal`]. The answer's number is the
-/// number of cues, or the index of the cue that was refused, or 0 where no cue was.
+/// [`resolve`] with a page number, which need not be that of a page, with the refusal's number in place of a [`Refusal`], and with the reads also where
+/// a cue's occurrence does not exist.
 ///
 /// ```
-/// use libretto::{resolve_raw, ResolverMemory};
-/// let raw = resolve_raw(1, b"", b"la", &mut ResolverMemory { copy: &mut [], phrase: &mut [], scratch: &mut [], entries: &mut [] });
-/// assert_eq!((raw.refusal, raw.number), (5, 0));
-/// let raw = resolve_raw(2, b"", b"la", &mut ResolverMemory { copy: &mut [], phrase: &mut [], scratch: &mut [0; 1281], entries: &mut [] });
-/// assert_eq!((raw.refusal, raw.number), (14, 0));
+/// use libretto::{resolve_raw, ResolverMemory, RESOLVER_SCRATCH};
+///
+/// let book = b"\x01\x00\x02la\x02\x00\x02\x00\x02\x03\x00\x02No";
+/// let (mut copy, mut scratch, mut entries) = ([0; 5], vec![0; RESOLVER_SCRATCH], [0; 3]);
+/// let mut memory = ResolverMemory { copy: &mut copy, scratch: &mut scratch, entries: &mut entries };
+/// let raw = resolve_raw(1, book, b"la,la", &mut memory);
+/// assert_eq!((raw.refusal, raw.number, raw.reads), (0, 1, 5));
+/// let raw = resolve_raw(1, book, b"la", &mut memory);
+/// assert_eq!((raw.refusal, raw.number, raw.reads), (12, 0, 2));
+/// let raw = resolve_raw(2, book, b"la", &mut memory);
+/// assert_eq!((raw.refusal, raw.number, raw.reads), (14, 0, 0));
 /// ```
-pub fn resolve_raw(page: u32, book: &[u8], text: &[u8], memory: &mut ResolverMemory<'_>) -> RawAnswer {
+pub fn resolve_raw(page: u32, book: &[u8], text: &[u8], memory: &mut ResolverMemory<'_>) -> RawResolving {
     ffi::resolve(page, book, text, memory)
 }
 
@@ -115,7 +144,8 @@ pub fn resolve_all(page: Page, book: &[u8], text: &[u8]) -> Result<Vec<CuePlace>
     // A longer text is refused, and so is a book that has no number of cues, so neither needs memory.
     let mut copy = vec![0; text.len().min(TEXT_MAX)];
     let mut entries = vec![0; CUE_ENTRIES * read_book(book).unwrap_or(0)];
-    let mut memory = ResolverMemory { copy: &mut copy, phrase: &mut [0; PHRASE_BUFFER], scratch: &mut [0; RESOLVER_SCRATCH], entries: &mut entries };
+    let mut scratch = vec![0; RESOLVER_SCRATCH];
+    let mut memory = ResolverMemory { copy: &mut copy, scratch: &mut scratch, entries: &mut entries };
     resolve(page, book, text, &mut memory)?;
     Ok(entries.chunks_exact(CUE_ENTRIES).map(|entry| CuePlace { place: entry[0], line: entry[1], column: entry[2] }).collect())
 }
@@ -171,16 +201,27 @@ mod tests {
     #[test]
     fn short_memory_names_no_cue() {
         let book = book(&[(b"la", 1)]);
-        let refused = |copy, phrase, scratch, entries| {
-            let (mut copy, mut phrase, mut scratch, mut entries) = (vec![7; copy], vec![7; phrase], vec![7; scratch], vec![7; entries]);
-            let mut memory = ResolverMemory { copy: &mut copy, phrase: &mut phrase, scratch: &mut scratch, entries: &mut entries };
+        let refused = |copy, scratch, entries| {
+            let (mut copy, mut scratch, mut entries) = (vec![7; copy], vec![7; scratch], vec![7; entries]);
+            let mut memory = ResolverMemory { copy: &mut copy, scratch: &mut scratch, entries: &mut entries };
             resolve(Page::Latin1, &book, b"la", &mut memory).map_err(|refused| (refused.refusal, refused.cue))
         };
-        assert_eq!(refused(2, PHRASE_BUFFER, RESOLVER_SCRATCH, CUE_ENTRIES), Ok(1));
-        assert_eq!(refused(2, PHRASE_BUFFER, RESOLVER_SCRATCH - 1, CUE_ENTRIES), Err((Refusal::ShortScratch, None)));
-        assert_eq!(refused(1, PHRASE_BUFFER, RESOLVER_SCRATCH, CUE_ENTRIES), Err((Refusal::ShortBuffer, None)));
-        assert_eq!(refused(2, PHRASE_BUFFER - 1, RESOLVER_SCRATCH, CUE_ENTRIES), Err((Refusal::ShortBuffer, None)));
-        assert_eq!(refused(2, PHRASE_BUFFER, RESOLVER_SCRATCH, CUE_ENTRIES - 1), Err((Refusal::ShortEntries, None)));
+        assert_eq!(refused(2, RESOLVER_SCRATCH, CUE_ENTRIES), Ok(Resolving { cues: 1, reads: 2 }));
+        assert_eq!(refused(2, RESOLVER_SCRATCH - 1, CUE_ENTRIES), Err((Refusal::ShortScratch, None)));
+        assert_eq!(refused(1, RESOLVER_SCRATCH, CUE_ENTRIES), Err((Refusal::ShortBuffer, None)));
+        assert_eq!(refused(2, RESOLVER_SCRATCH, CUE_ENTRIES - 1), Err((Refusal::ShortEntries, None)));
+    }
+
+    #[test]
+    fn reads_count_the_letters_for_each_group() {
+        let reads = |cues: usize, text: &[u8]| {
+            let book = book(&vec![(&b"la"[..], 1); cues]);
+            let (mut copy, mut scratch, mut entries) = (vec![7; text.len()], vec![7; RESOLVER_SCRATCH], vec![7; CUE_ENTRIES * cues]);
+            let raw = resolve_raw(1, &book, text, &mut ResolverMemory { copy: &mut copy, scratch: &mut scratch, entries: &mut entries });
+            (raw.refusal, raw.number, raw.reads)
+        };
+        assert_eq!([0, 1, 64, 65, 129].map(|cues| reads(cues, b"tra la").2), [0, 6, 6, 12, 18]);
+        assert_eq!(reads(65, b"tra"), (12, 0, 3));
     }
 
     #[test]

@@ -1,49 +1,70 @@
 //! Document 01, "Cue book, folding, lines": the resolver, and "What a refused call hands back", rows 4 to 12. Document 02 (i): the line rule;
-//! (iv): the page.
+//! (iv): the page; (vi): the groups, the reads, and one scratch.
 
-use crate::{cues, fold};
+use crate::{cues, fold, Cue};
 use std::ops::Range;
 
-/// 0 and the number of cues, or the refusal's number with a cue's index; and what the lent memory holds afterwards.
-pub fn resolve(page: u32, book: &[u8], text: &[u8], copy: &mut [u8], phrase: &mut [u8], scratch: &mut [u16], entries: &mut [u32]) -> (u32, u32) {
-    // The refusals 4 and 5, then 14, then 6, then those of the whole book, then 11; nothing is written.
+/// The scratch entries that the library states it needs; document 02 (vi) leaves their number to it.
+const SCRATCH: usize = 65_535;
+
+/// 0, the number of cues and the reads, or the refusal's number with a cue's index and the reads; and what the lent memory holds afterwards.
+pub fn resolve(page: u32, book: &[u8], text: &[u8], copy: &mut [u8], scratch: &mut [u16], entries: &mut [u32]) -> (u32, u32, u32) {
+    // The refusals 4 and 5, then 14, then 6, then those of the whole book, then 11; nothing is written, and nothing is read.
     if text.len() > 32_768 {
-        return (4, 0);
+        return (4, 0, 0);
     }
-    if scratch.len() < 1281 {
-        return (5, 0);
+    if scratch.len() < SCRATCH {
+        return (5, 0, 0);
     }
     let Some(rule) = fold::rule(page) else {
-        return (14, 0);
+        return (14, 0, 0);
     };
-    if copy.len() < text.len() || phrase.len() < 1024 {
-        return (6, 0);
+    if copy.len() < text.len() {
+        return (6, 0, 0);
     }
     let cues = match cues(book) {
         Ok(cues) => cues,
-        Err(refused) => return refused,
+        Err((refusal, cue)) => return (refusal, cue, 0),
     };
     if entries.len() < 3 * cues.len() {
-        return (11, 0);
+        return (11, 0, 0);
     }
 
-    // The copy's first n bytes are the folded text, and the phrase buffer and scratch are 0 throughout, whether a cue meets 12 or not.
+    // The copy's first n bytes are the folded text, and the scratch is 0 throughout, whether a cue meets 12 or not.
     let fold_all = |letters: &[u8]| letters.iter().map(|&letter| rule(letter)).collect::<Vec<u8>>();
     let folded = fold_all(text);
     copy[..text.len()].copy_from_slice(&folded);
-    phrase.fill(0);
     scratch.fill(0);
 
-    let endings = endings(text);
+    let (endings, groups) = (endings(text), groups(&cues));
+    // n times the groups walked.
+    let reads = |walked: usize| (text.len() * walked) as u32;
     for (index, cue) in cues.iter().enumerate() {
-        // The entries of earlier cues stay written; those of this cue and the later ones keep their values.
+        // The entries of earlier cues stay written; those of this cue and the later ones keep their values. The group of this cue is included.
         let Some(place) = occurrence(&fold_all(&book[cue.phrase.clone()]), &folded, cue.ordinal) else {
-            return (12, index as u32);
+            let walked = groups.iter().filter(|group| group.start <= index).count();
+            return (12, index as u32, reads(walked));
         };
         let (line, column) = line_and_column(&endings, place);
         entries[3 * index..3 * index + 3].copy_from_slice(&[place, line, column].map(|number| number as u32));
     }
-    (0, cues.len() as u32)
+    (0, cues.len() as u32, reads(groups.len()))
+}
+
+/// The groups of the cues, each by the indices of its cues: consecutive cues, as many as fit into 64 cues and 4,096 phrase bytes.
+pub fn groups(cues: &[Cue]) -> Vec<Range<usize>> {
+    let fits = |group: &Range<usize>| group.len() <= 64 && cues[group.clone()].iter().map(|cue| cue.phrase.len()).sum::<usize>() <= 4096;
+    let mut groups = Vec::new();
+    let mut start = 0;
+    while start < cues.len() {
+        let mut end = start + 1;
+        while end < cues.len() && fits(&(start..end + 1)) {
+            end += 1;
+        }
+        groups.push(start..end);
+        start = end;
+    }
+    groups
 }
 
 /// The place of this occurrence; ordinal 1 is the first. Each place in turn is compared with the whole phrase.

@@ -1,9 +1,9 @@
-//! The worked examples of document 01, "The finder program" and "Refrains to try", and of document 02, (ii), (iv), (v), (x), (xi) and (xiii), and
-//! the tests that books, cues and lent memory meet.
+//! The worked examples of document 01, "The finder program" and "Refrains to try", and of document 02, (ii), (iv), (v), (vi), (x), (xi) and
+//! (xiii), and the tests that books, cues and lent memory meet.
 
 use crate::{boyer_moore, double_window, fjs, horspool, improved_fjs, kmp, sunday};
 use crate::{cues, read_book, read_cue, read_due, read_field, title, write_cue, Cue, Field};
-use crate::{endings, find, find_moves, finder_output, fold, fold_text, folding_rule, line_and_column, max_shift_table, resolve, widest_gap};
+use crate::{endings, find, find_moves, finder_output, fold, fold_text, folding_rule, groups, line_and_column, max_shift_table, resolve, widest_gap};
 use crate::{new_text, relist};
 
 /// Total, comparisons and places by a method, with memory enough.
@@ -1037,15 +1037,14 @@ fn cues_to_be_written() {
 }
 
 /// What the resolver gives, with the entries, in memory that is just long enough and holds 7 throughout before.
-fn resolved(page: u32, book: &[u8], text: &[u8], cues: usize) -> ((u32, u32), Vec<u32>) {
-    let mut copy = vec![7; text.len()];
-    let (mut phrase, mut scratch, mut entries) = ([7; 1024], [7; 1281], vec![7; 3 * cues]);
-    let answer = resolve(page, book, text, &mut copy, &mut phrase, &mut scratch, &mut entries);
+fn resolved(page: u32, book: &[u8], text: &[u8], cues: usize) -> ((u32, u32, u32), Vec<u32>) {
+    let (mut copy, mut scratch, mut entries) = (vec![7; text.len()], vec![7; 65_535], vec![7; 3 * cues]);
+    let answer = resolve(page, book, text, &mut copy, &mut scratch, &mut entries);
     if [0, 12].contains(&answer.0) {
         assert_eq!(copy, text.iter().map(|&letter| folding_rule(page).unwrap()(letter)).collect::<Vec<u8>>());
-        assert_eq!((phrase, scratch), ([0; 1024], [0; 1281]));
+        assert_eq!(scratch, [0; 65_535]);
     } else {
-        assert_eq!((copy, phrase, scratch), (vec![7; text.len()], [7; 1024], [7; 1281]));
+        assert_eq!((copy, scratch), (vec![7; text.len()], vec![7; 65_535]));
     }
     (answer, entries)
 }
@@ -1053,8 +1052,8 @@ fn resolved(page: u32, book: &[u8], text: &[u8], cues: usize) -> ((u32, u32), Ve
 #[test]
 fn starred_resolving() {
     for page in [1, 15] {
-        assert_eq!(resolved(page, BOOK, b"la\nla", 1), ((0, 1), vec![3, 2, 1]));
-        assert_eq!(resolved(page, BOOK, b"la", 1), ((12, 0), vec![7, 7, 7]));
+        assert_eq!(resolved(page, BOOK, b"la\nla", 1), ((0, 1, 5), vec![3, 2, 1]));
+        assert_eq!(resolved(page, BOOK, b"la", 1), ((12, 0, 2), vec![7, 7, 7]));
     }
 }
 
@@ -1077,11 +1076,52 @@ fn folded_and_overlapping_occurrences() {
     let (_, second) = write_cue(&mut book[first as usize..], b"\n", 2, b"the second line's end");
     let book = &book[..(first + second) as usize];
     for page in [1, 15] {
-        assert_eq!(resolved(page, book, b" \n\xe9l\xc9L\xe9\n", 2), ((0, 2), vec![4, 2, 3, 7, 2, 6]));
-        assert_eq!(resolved(page, book, b" \n\xe9l\xc9L\xe9", 2), ((12, 1), vec![4, 2, 3, 7, 7, 7]));
-        assert_eq!(resolved(page, book, b" \n\xe9l\xc9L\xe9", 1), ((11, 0), vec![7, 7, 7]));
-        assert_eq!(resolved(page, &[], b"", 0), ((0, 0), vec![]));
+        assert_eq!(resolved(page, book, b" \n\xe9l\xc9L\xe9\n", 2), ((0, 2, 8), vec![4, 2, 3, 7, 2, 6]));
+        assert_eq!(resolved(page, book, b" \n\xe9l\xc9L\xe9", 2), ((12, 1, 7), vec![4, 2, 3, 7, 7, 7]));
+        assert_eq!(resolved(page, book, b" \n\xe9l\xc9L\xe9", 1), ((11, 0, 0), vec![7, 7, 7]));
+        assert_eq!(resolved(page, &[], b"", 0), ((0, 0, 0), vec![]));
+        assert_eq!(resolved(page, &[], b"LA", 0), ((0, 0, 0), vec![]));
     }
+}
+
+/// The first cue of each group, and the one after its last, for cues with phrases of these lengths.
+fn bounds_of_groups(lengths: &[usize]) -> Vec<(usize, usize)> {
+    let cues: Vec<Cue> = lengths.iter().map(|&length| Cue { phrase: 0..length, ordinal: 1, title: 0..0 }).collect();
+    groups(&cues).into_iter().map(|group| (group.start, group.end)).collect()
+}
+
+/// Document 02 (vi): as many consecutive cues as fit into 64 cues and 4,096 phrase bytes.
+#[test]
+fn groups_of_cues() {
+    assert_eq!(bounds_of_groups(&[]), []);
+    assert_eq!(bounds_of_groups(&[1; 64]), [(0, 64)]);
+    assert_eq!(bounds_of_groups(&[1; 65]), [(0, 64), (64, 65)]);
+    assert_eq!(bounds_of_groups(&[64; 64]), [(0, 64)]);
+    assert_eq!(bounds_of_groups(&[65; 64]), [(0, 63), (63, 64)]);
+    assert_eq!(bounds_of_groups(&[1024; 4]), [(0, 4)]);
+    assert_eq!(bounds_of_groups(&[1024, 1024, 1024, 1024, 1]), [(0, 4), (4, 5)]);
+    // A cue that does not fit starts the next group, also where a later one would fit.
+    assert_eq!(bounds_of_groups(&[1000, 1024, 1024, 1024, 1000, 24, 1000]), [(0, 4), (4, 7)]);
+    assert_eq!(bounds_of_groups(&[1024; 999]).len(), 250);
+}
+
+/// Document 02 (vi): n times the groups walked, the group of a missing cue included. The 64th cue is the last of the first group.
+#[test]
+fn reads_of_groups() {
+    for (missing, walked) in [(0, 1), (63, 1), (64, 2), (127, 2), (128, 3)] {
+        let mut book = Vec::new();
+        for index in 0..130 {
+            let mut cue = [0; 20];
+            let (_, length) = write_cue(&mut cue, if index == missing { b"so" } else { b"LA" }, 2, b"");
+            book.extend_from_slice(&cue[..length as usize]);
+        }
+        let (answer, entries) = resolved(1, &book, b"la\nla", 130);
+        assert_eq!(answer, (12, missing, 5 * walked));
+        let written = 3 * missing as usize;
+        assert_eq!(entries, [[3, 2, 1].repeat(missing as usize), vec![7; 390 - written]].concat());
+    }
+    assert_eq!(resolved(1, &BOOK.repeat(130), b"la\nla", 130).0, (0, 130, 15));
+    assert_eq!(resolved(1, &BOOK.repeat(130), b"", 130).0, (12, 0, 0));
 }
 
 /// Document 02 (iv): the letters of a pair are one letter on page 15 and two on page 1.
@@ -1090,25 +1130,23 @@ fn resolving_by_a_page() {
     let mut book = [0; 1000];
     let (_, length) = write_cue(&mut book, b"c\xbcur", 2, b"");
     let book = &book[..length as usize];
-    assert_eq!(resolved(15, book, b"C\xbdUR\nc\xbcur", 1), ((0, 1), vec![5, 2, 1]));
-    assert_eq!(resolved(1, book, b"C\xbdUR\nc\xbcur", 1), ((12, 0), vec![7, 7, 7]));
-    assert_eq!(resolved(2, book, b"C\xbdUR\nc\xbcur", 1), ((14, 0), vec![7, 7, 7]));
+    assert_eq!(resolved(15, book, b"C\xbdUR\nc\xbcur", 1), ((0, 1, 9), vec![5, 2, 1]));
+    assert_eq!(resolved(1, book, b"C\xbdUR\nc\xbcur", 1), ((12, 0, 9), vec![7, 7, 7]));
+    assert_eq!(resolved(2, book, b"C\xbdUR\nc\xbcur", 1), ((14, 0, 0), vec![7, 7, 7]));
 }
 
 /// The tests in their order, each met by a call that would also meet the later ones; 14 comes after 5 and before 6.
 #[test]
 fn resolving_limits() {
     let text = [b'a'; 32_769];
-    let (mut copy, mut phrase, mut scratch) = ([7; 32_769], [7; 1024], [7; 1281]);
-    let mut refusal =
-        |page, n, copied, m, tables| resolve(page, b"\x02", &text[..n], &mut copy[..copied], &mut phrase[..m], &mut scratch[..tables], &mut []);
-    assert_eq!(refusal(0, 32_769, 0, 0, 0), (4, 0));
-    assert_eq!(refusal(0, 32_768, 0, 0, 1280), (5, 0));
-    assert_eq!(refusal(0, 32_768, 0, 0, 1281), (14, 0));
-    assert_eq!(refusal(0, 32_768, 32_768, 1024, 1281), (14, 0));
+    let (mut copy, mut scratch) = (vec![7; 32_769], vec![7; 65_535]);
+    let mut refusal = |page, n, copied, tables| resolve(page, b"\x02", &text[..n], &mut copy[..copied], &mut scratch[..tables], &mut []);
+    assert_eq!(refusal(0, 32_769, 0, 0), (4, 0, 0));
+    assert_eq!(refusal(0, 32_768, 0, 65_534), (5, 0, 0));
+    assert_eq!(refusal(0, 32_768, 0, 65_535), (14, 0, 0));
+    assert_eq!(refusal(0, 32_768, 32_768, 65_535), (14, 0, 0));
     for page in [1, 15] {
-        assert_eq!(refusal(page, 32_768, 32_767, 1024, 1281), (6, 0));
-        assert_eq!(refusal(page, 32_768, 32_768, 1023, 1281), (6, 0));
-        assert_eq!(refusal(page, 32_768, 32_768, 1024, 1281), (7, 0));
+        assert_eq!(refusal(page, 32_768, 32_767, 65_535), (6, 0, 0));
+        assert_eq!(refusal(page, 32_768, 32_768, 65_535), (7, 0, 0));
     }
 }

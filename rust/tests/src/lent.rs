@@ -9,7 +9,7 @@ use std::sync::OnceLock;
 const GUARDS: usize = 8;
 
 /// The longest slice that can be lent, and how far into the dirt a call may begin.
-const DIRT: usize = 100_000;
+const DIRT: usize = 200_000;
 const OFFSETS: usize = 4096;
 
 /// An entry of lent or shown memory: a number of 8, 16 or 32 bits.

@@ -9,6 +9,7 @@ pub mod books;
 mod cue_book;
 mod find;
 mod fold;
+pub mod groups;
 mod late_cuts;
 mod lent;
 pub mod pages;

@@ -3,14 +3,13 @@
 use crate::books::MORE;
 use crate::lent::{dirt, Lent, Shown};
 use crate::{Faults, Random};
-use libretto::{resolve_raw, RawAnswer, ResolverMemory};
+use libretto::{resolve_raw, RawResolving, ResolverMemory, RESOLVER_SCRATCH};
 use std::cell::RefCell;
 
 /// How much of each kind of memory is lent.
 #[derive(Clone, Copy, Debug)]
 pub struct Lengths {
     pub copy: usize,
-    pub phrase: usize,
     pub scratch: usize,
     pub entries: usize,
 }
@@ -18,13 +17,13 @@ pub struct Lengths {
 impl Lengths {
     /// Just enough for a text of n bytes and so many cues.
     pub fn enough(n: usize, cues: usize) -> Lengths {
-        Lengths { copy: n, phrase: 1024, scratch: 1281, entries: 3 * cues }
+        Lengths { copy: n, scratch: RESOLVER_SCRATCH, entries: 3 * cues }
     }
 
     /// Each of these lengths, or somewhat more.
     pub fn or_more(self, random: &mut Random) -> Lengths {
         let mut more = |length| length + [0, 1, random.between(2, 50)][random.below(3)];
-        Lengths { copy: more(self.copy), phrase: more(self.phrase), scratch: more(self.scratch), entries: more(self.entries) }
+        Lengths { copy: more(self.copy), scratch: more(self.scratch), entries: more(self.entries) }
     }
 }
 
@@ -34,7 +33,6 @@ struct Memory {
     book: Shown<u8>,
     text: Shown<u8>,
     copy: Lent<u8>,
-    phrase: Lent<u8>,
     scratch: Lent<u16>,
     entries: Lent<u32>,
 }
@@ -44,7 +42,6 @@ thread_local!(static MEMORY: RefCell<Memory> = RefCell::default());
 /// What the lent memory holds before a call.
 struct Held {
     copy: Vec<u8>,
-    phrase: &'static [u8],
     scratch: &'static [u16],
     entries: &'static [u32],
 }
@@ -59,7 +56,7 @@ impl Held {
         for (byte, letter) in copy.iter_mut().skip(text.len()).zip(folded.cycle()) {
             *byte = letter;
         }
-        Held { copy, phrase: dirt(lengths.phrase, seed), scratch: dirt(lengths.scratch, seed), entries: dirt(lengths.entries, seed) }
+        Held { copy, scratch: dirt(lengths.scratch, seed), entries: dirt(lengths.entries, seed) }
     }
 }
 
@@ -68,49 +65,47 @@ impl Memory {
         self.book.show(book, MORE);
         self.text.show(text, text);
         self.copy.soil(&held.copy);
-        self.phrase.soil(held.phrase);
         self.scratch.soil(held.scratch);
         self.entries.soil(held.entries);
     }
 
     /// Calls the library and the reference.
-    fn call(&mut self, page: u32, book: &[u8], text: &[u8]) -> (RawAnswer, (u32, u32)) {
+    fn call(&mut self, page: u32, book: &[u8], text: &[u8]) -> (RawResolving, (u32, u32, u32)) {
         let (copy, reference_copy) = self.copy.lend();
-        let (phrase, reference_phrase) = self.phrase.lend();
         let (scratch, reference_scratch) = self.scratch.lend();
         let (entries, reference_entries) = self.entries.lend();
-        let raw = resolve_raw(page, self.book.entries(), self.text.entries(), &mut ResolverMemory { copy, phrase, scratch, entries });
-        (raw, reference::resolve(page, book, text, reference_copy, reference_phrase, reference_scratch, reference_entries))
+        let raw = resolve_raw(page, self.book.entries(), self.text.entries(), &mut ResolverMemory { copy, scratch, entries });
+        (raw, reference::resolve(page, book, text, reference_copy, reference_scratch, reference_entries))
     }
 
     /// What is wrong with the memory, told without the reference.
-    fn kept_and_cleared(&self, raw: RawAnswer, held: &Held, faults: &mut Faults) {
+    fn kept_and_cleared(&self, raw: RawResolving, held: &Held, faults: &mut Faults) {
         if raw.refusal == 0 || raw.refusal == 12 {
-            let cleared = self.phrase.left().iter().all(|&byte| byte == 0) && self.scratch.left().iter().all(|&entry| entry == 0);
-            faults.when(!cleared, "phrase buffer or scratch is not 0 throughout");
+            // All entries are joined without a stop at the first, which the compiler does for many of them at a time.
+            let joined = self.scratch.left().iter().fold(0, |bits, &entry| bits | entry);
+            faults.when(joined != 0, "the scratch is not 0 throughout");
             let rest = 3 * raw.number as usize..;
             faults.when(self.entries.left().get(rest.clone()) != held.entries.get(rest), "an entry that is not due was written");
         } else {
-            let work = self.copy.left() == held.copy && self.phrase.left() == held.phrase && self.scratch.left() == held.scratch;
+            let work = self.copy.left() == held.copy && self.scratch.left() == held.scratch;
             faults.when(!work || self.entries.left() != held.entries, "a refused call wrote something");
         }
     }
 }
 
-/// Calls the library and the reference with equal arguments and compares the answers and all of copy, phrase buffer, scratch and entries with guards on
-/// both sides. All four are dirty before the call, by the seed. In memory the text is followed by itself and the book by one more cue. Any difference
-/// ends the test with the whole case.
-pub fn compare_resolve(page: u32, book: &[u8], text: &[u8], lengths: Lengths, seed: u64) -> RawAnswer {
+/// Calls the library and the reference with equal arguments and compares the answers and all of copy, scratch and entries with guards on both sides. All
+/// three are dirty before the call, by the seed. In memory the text is followed by itself and the book by one more cue. Any difference ends the test
+/// with the whole case.
+pub fn compare_resolve(page: u32, book: &[u8], text: &[u8], lengths: Lengths, seed: u64) -> RawResolving {
     let held = Held::new(page, text, lengths, seed);
     MEMORY.with_borrow_mut(|memory| {
         memory.prepare(book, text, &held);
         let (raw, reference) = memory.call(page, book, text);
-        let library = (raw.refusal, raw.number);
+        let library = (raw.refusal, raw.number, raw.reads);
 
         let mut faults = Faults::default();
-        faults.when(library != reference, "refusal or number differ");
+        faults.when(library != reference, "refusal, number or reads differ");
         faults.extend(memory.copy.difference("copy"));
-        faults.extend(memory.phrase.difference("phrase buffer"));
         faults.extend(memory.scratch.difference("scratch"));
         faults.extend(memory.entries.difference("cue"));
         faults.when(!memory.book.intact(book, MORE) || !memory.text.intact(text, text), "book or text was written");
@@ -118,7 +113,7 @@ pub fn compare_resolve(page: u32, book: &[u8], text: &[u8], lengths: Lengths, se
         faults.judge(|| {
             format!(
                 "page {page}, book of {} bytes, text of {} bytes, {lengths:?}, seed {seed}\nbook: \"{}\"\ntext: \"{}\"\n\
-                 (refusal, number): library {library:?}, reference {reference:?}",
+                 (refusal, number, reads): library {library:?}, reference {reference:?}",
                 book.len(),
                 text.len(),
                 book.escape_ascii(),

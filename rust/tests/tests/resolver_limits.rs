@@ -1,7 +1,7 @@
 //! The refusals of the resolver, their order, and what a call leaves that was refused. That all but 12 leave everything as before is tested in every
 //! compared call, without the reference.
 
-use libretto::{resolve, resolve_raw, Page, RawAnswer, Refusal, ResolveError, ResolverMemory};
+use libretto::{resolve, resolve_raw, Page, RawResolving, Refusal, ResolveError, ResolverMemory, Resolving, RESOLVER_SCRATCH};
 use libretto_tests::books::{book, Cue, MORE};
 use libretto_tests::pages::{unknown_pages, PAGES};
 use libretto_tests::{compare_resolve, report, Lengths, Random};
@@ -37,24 +37,28 @@ fn cases() -> Vec<Case> {
     ]
 }
 
-/// The answer by the words of document 01, and of document 02, (iv), which puts the page between scratch and copy.
-fn due(page: u32, case: &Case, n: usize, lengths: Lengths) -> (u32, u32) {
+/// The answer by the words of document 01, and of document 02, (iv), which puts the page between scratch and copy, and (vi), which counts the reads. All
+/// books that are not refused have one group, and the one without cues has none.
+fn due(page: u32, case: &Case, n: usize, lengths: Lengths) -> RawResolving {
+    let refused = |refusal: Refusal| RawResolving { refusal: refusal.number(), number: 0, reads: 0 };
+    let missing = |cue| RawResolving { refusal: Refusal::NoOccurrence.number(), number: cue, reads: n as u32 };
+    let (refusal, number) = case.read;
     if n > 32_768 {
-        (Refusal::LongText.number(), 0)
-    } else if lengths.scratch < 1281 {
-        (Refusal::ShortScratch.number(), 0)
+        refused(Refusal::LongText)
+    } else if lengths.scratch < 65_535 {
+        refused(Refusal::ShortScratch)
     } else if !PAGES.contains(&page) {
-        (Refusal::UnknownPage.number(), 0)
-    } else if lengths.copy < n || lengths.phrase < 1024 {
-        (Refusal::ShortBuffer.number(), 0)
-    } else if case.read.0 != 0 {
-        case.read
-    } else if lengths.entries < 3 * case.read.1 as usize {
-        (Refusal::ShortEntries.number(), 0)
-    } else if n == 0 && case.read.1 > 0 {
-        (Refusal::NoOccurrence.number(), 0)
+        refused(Refusal::UnknownPage)
+    } else if lengths.copy < n {
+        refused(Refusal::ShortBuffer)
+    } else if refusal != 0 {
+        RawResolving { refusal, number, reads: 0 }
+    } else if lengths.entries < 3 * number as usize {
+        refused(Refusal::ShortEntries)
+    } else if n == 0 && number > 0 {
+        missing(0)
     } else {
-        case.missing.map_or(case.read, |cue| (Refusal::NoOccurrence.number(), cue))
+        case.missing.map_or(RawResolving { refusal, number, reads: if number == 0 { 0 } else { n as u32 } }, missing)
     }
 }
 
@@ -68,16 +72,14 @@ fn every_limit_with_every_other() {
     for case in cases() {
         for n in [0usize, 1, 7, 32_767, 32_768, 32_769, 40_000] {
             for copy in [0, n.saturating_sub(1), n, n + 1] {
-                for phrase in [0, 1023, 1024, 1025] {
-                    for scratch in [0, 1280, 1281, 1282] {
-                        for entries in [0, 3, 5, 6, 7] {
-                            let lengths = Lengths { copy, phrase, scratch, entries };
-                            for page in [PAGES[random.below(2)], unknown[random.below(unknown.len())]] {
-                                let RawAnswer { refusal, number } = compare_resolve(page, &case.book, &text[..n], lengths, random.next());
-                                let due = due(page, &case, n, lengths);
-                                assert_eq!((refusal, number), due, "page {page}, {:?} in {n} letters, {lengths:?}", case.read);
-                                met[refusal as usize] += 1;
-                            }
+                for scratch in [0, 65_534, 65_535, 65_536] {
+                    for entries in [0, 3, 5, 6, 7] {
+                        let lengths = Lengths { copy, scratch, entries };
+                        for page in [PAGES[random.below(2)], unknown[random.below(unknown.len())]] {
+                            let answer = compare_resolve(page, &case.book, &text[..n], lengths, random.next());
+                            let due = due(page, &case, n, lengths);
+                            assert_eq!(answer, due, "page {page}, {:?} in {n} letters, {lengths:?}", case.read);
+                            met[answer.refusal as usize] += 1;
                         }
                     }
                 }
@@ -85,7 +87,7 @@ fn every_limit_with_every_other() {
         }
     }
     assert!([0, 4, 5, 6, 7, 8, 9, 10, 11, 12, 14].iter().all(|&refusal| met[refusal] > 30), "the calls met too little: {met:?}");
-    report("every_limit_with_every_other", 2 * 9 * 7 * 4 * 4 * 4 * 5);
+    report("every_limit_with_every_other", 2 * 9 * 7 * 4 * 4 * 5);
 }
 
 /// Every unknown page in calls that meet one other refusal besides: 4 and 5 come before 14, and all others after it. Each of these calls meets its other
@@ -98,9 +100,8 @@ fn unknown_pages_between_scratch_and_copy() {
     let good = ((0, 2), None);
     let calls = [
         (good, 32_769, enough(32_769), 4),
-        (good, 7, Lengths { scratch: 1280, ..enough(7) }, 5),
+        (good, 7, Lengths { scratch: 65_534, ..enough(7) }, 5),
         (good, 7, Lengths { copy: 6, ..enough(7) }, 6),
-        (good, 7, Lengths { phrase: 1023, ..enough(7) }, 6),
         (((7, 1), Some(0)), 7, enough(7), 7),
         (((8, 1), Some(0)), 7, enough(7), 8),
         (((8, 0), Some(0)), 7, enough(7), 8),
@@ -117,24 +118,24 @@ fn unknown_pages_between_scratch_and_copy() {
             let refusal = compare_resolve(page, &case.book, &text[..n], lengths, random.next()).refusal;
             assert_eq!(refusal, other, "page {page}, {kind:?} in {n} letters, {lengths:?}");
         }
-        let due = RawAnswer { refusal: if [4, 5].contains(&other) { other } else { 14 }, number: 0 };
+        let due = RawResolving { refusal: if [4, 5].contains(&other) { other } else { 14 }, number: 0, reads: 0 };
         for page in unknown_pages() {
             let answer = compare_resolve(page, &case.book, &text[..n], lengths, random.next());
             assert_eq!(answer, due, "page {page}, which meets {other} too, {kind:?} in {n} letters, {lengths:?}");
         }
     }
-    report("unknown_pages_between_scratch_and_copy", 13 * (2 + 305));
+    report("unknown_pages_between_scratch_and_copy", 12 * (2 + 305));
 }
 
 /// What a call by an unknown page leaves, without the reference.
 #[test]
 fn unknown_pages_write_nothing() {
     for page in unknown_pages() {
-        let (mut copy, mut phrase, mut scratch, mut entries) = ([7; 20], [7; 1030], [7; 1300], [7; 17]);
-        let mut memory = ResolverMemory { copy: &mut copy, phrase: &mut phrase, scratch: &mut scratch, entries: &mut entries };
+        let (mut copy, mut scratch, mut entries) = ([7; 20], [7; 65_600], [7; 17]);
+        let mut memory = ResolverMemory { copy: &mut copy, scratch: &mut scratch, entries: &mut entries };
         let answer = resolve_raw(page, MORE, b"tralala", &mut memory);
-        assert_eq!(answer, RawAnswer { refusal: 14, number: 0 }, "page {page}");
-        assert_eq!((copy, phrase, scratch, entries), ([7; 20], [7; 1030], [7; 1300], [7; 17]), "page {page}");
+        assert_eq!(answer, RawResolving { refusal: 14, number: 0, reads: 0 }, "page {page}");
+        assert_eq!((copy, scratch, entries), ([7; 20], [7; 65_600], [7; 17]), "page {page}");
     }
 }
 
@@ -147,8 +148,9 @@ fn every_number_of_entries() {
             let lengths = Lengths { entries, ..Lengths::enough(4, count) };
             let page = PAGES[entries % 2];
             let answer = compare_resolve(page, &book, b"lala", lengths, random.next());
-            let expected = if entries < 3 * count { (11, 0) } else { (0, count as u32) };
-            assert_eq!((answer.refusal, answer.number), expected, "page {page}, {count} cues, {entries} entries");
+            let reads = 4 * count.div_ceil(64) as u32;
+            let expected = if entries < 3 * count { (11, 0, 0) } else { (0, count as u32, reads) };
+            assert_eq!((answer.refusal, answer.number, answer.reads), expected, "page {page}, {count} cues, {entries} entries");
         }
     }
     report("every_number_of_entries", 6 + 9 + 12 + 3 * 23);
@@ -164,8 +166,8 @@ fn missing_occurrences() {
         for &(missing, rest) in &ends {
             let mut changed: Vec<Cue> = cues[..rest].iter().map(|&(phrase, ordinal, _)| Cue::new(phrase, ordinal, b"")).collect();
             changed[missing].ordinal = 5;
-            let (mut copy, mut phrase, mut scratch, mut entries) = ([7; 20], [7; 1030], [7; 1300], [7; 17]);
-            let mut memory = ResolverMemory { copy: &mut copy, phrase: &mut phrase, scratch: &mut scratch, entries: &mut entries };
+            let (mut copy, mut scratch, mut entries) = ([7; 20], [7; 65_600], [7; 17]);
+            let mut memory = ResolverMemory { copy: &mut copy, scratch: &mut scratch, entries: &mut entries };
             let answer = resolve(page, &book(&changed), text, &mut memory);
             let told = format!("{page:?}, cue {missing} of {rest} missing");
             assert_eq!(answer, Err(ResolveError { refusal: Refusal::NoOccurrence, cue: Some(missing) }), "{told}");
@@ -173,7 +175,7 @@ fn missing_occurrences() {
             assert_eq!(entries[..3 * missing], written, "{told}: the earlier cues' entries");
             assert_eq!(entries[3 * missing..], [7; 17][3 * missing..], "{told}: the entries from the missing cue on");
             assert_eq!(copy, *b"tra\nla la\nlala\x07\x07\x07\x07\x07\x07", "{told}");
-            assert_eq!((phrase, scratch), ([0; 1030], [0; 1300]), "{told}");
+            assert_eq!(scratch, [0; 65_600], "{told}");
         }
     }
 }
@@ -182,10 +184,10 @@ fn missing_occurrences() {
 #[test]
 fn slices_without_memory() {
     for page in Page::ALL {
-        let (mut copy, mut phrase, mut scratch, mut entries) = (vec![], vec![7; 1024], vec![7; 1281], vec![]);
-        let mut memory = ResolverMemory { copy: &mut copy, phrase: &mut phrase, scratch: &mut scratch, entries: &mut entries };
-        assert_eq!(resolve(page, &Vec::new(), &Vec::new(), &mut memory), Ok(0));
-        assert_eq!((&*memory.phrase, &*memory.scratch), (&[0; 1024][..], &[0; 1281][..]));
+        let (mut copy, mut scratch, mut entries) = (vec![], vec![7; RESOLVER_SCRATCH], vec![]);
+        let mut memory = ResolverMemory { copy: &mut copy, scratch: &mut scratch, entries: &mut entries };
+        assert_eq!(resolve(page, &Vec::new(), &Vec::new(), &mut memory), Ok(Resolving { cues: 0, reads: 0 }));
+        assert_eq!(*memory.scratch, [0; RESOLVER_SCRATCH]);
         assert_eq!(resolve(page, MORE, &Vec::new(), &mut memory), Err(ResolveError { refusal: Refusal::ShortEntries, cue: None }));
         memory.scratch = &mut [];
         assert_eq!(resolve(page, &Vec::new(), &Vec::new(), &mut memory), Err(ResolveError { refusal: Refusal::ShortScratch, cue: None }));

@@ -1,33 +1,16 @@
 //! The resolver over random texts, refrains, line ends, every letter, French and Finnish texts, texts folded beforehand, and the longest of everything.
 //! What a call leaves in its memory is compared in every call. Most tests go by one page and the other in turn.
 
-use libretto::{fold_text, resolve_all, CuePlace, Page, RawAnswer};
+use libretto::{fold_text, resolve_all, CuePlace, Page};
 use libretto_tests::books::{book, Cue, CUES, PHRASE};
+use libretto_tests::groups::{resolve, resolve_missing, resolve_standing};
 use libretto_tests::pages::{letters, PAGES};
 use libretto_tests::verses::{in_any_case, missing, standing, total, verse, word, ALPHABETS};
 use libretto_tests::words::{fibonacci, periodic};
-use libretto_tests::{compare_resolve, report, Lengths, Random};
+use libretto_tests::{report, Random};
 
 /// The longest text.
 const TEXT: usize = 32_768;
-
-/// Resolves the cues in memory that is just long enough or somewhat longer.
-fn resolve(page: u32, cues: &[Cue], text: &[u8], random: &mut Random) -> RawAnswer {
-    let lengths = Lengths::enough(text.len(), cues.len()).or_more(random);
-    compare_resolve(page, &book(cues), text, lengths, random.next())
-}
-
-/// Resolves cues that all stand in the text.
-fn resolve_standing(page: u32, cues: &[Cue], text: &[u8], random: &mut Random) {
-    let answer = resolve(page, cues, text, random);
-    assert_eq!(answer, RawAnswer { refusal: 0, number: cues.len() as u32 }, "page {page}, {cues:?} in \"{}\"", text.escape_ascii());
-}
-
-/// Resolves cues of which this one is the first that does not stand in the text.
-fn resolve_missing(page: u32, cues: &[Cue], missing: usize, text: &[u8], random: &mut Random) {
-    let answer = resolve(page, cues, text, random);
-    assert_eq!(answer, RawAnswer { refusal: 12, number: missing as u32 }, "page {page}, {cues:?} in \"{}\"", text.escape_ascii());
-}
 
 /// A few cues that stand in the text, and in every second round one that does not, among them or as the last; and which one that is.
 fn some_cues(page: u32, alphabet: &[u8], text: &[u8], round: usize, random: &mut Random) -> (Vec<Cue>, Option<usize>) {

@@ -16,7 +16,7 @@ returns c = let a = c .before .args in rw (lt-ltb 32768 (a .n) (omega arith))
 
 returns-2 : tie.Need-returns-2
 unfolding callRefusalOf firstMet
-returns-2 c = let a = c .before .before .args in rw (le-ltb 32768 (a .n) (omega arith), lt-ltb (a .scratch) 1281 (omega arith))
+returns-2 c = let a = c .before .before .args in rw (le-ltb 32768 (a .n) (omega arith), lt-ltb (a .scratch) 65535 (omega arith))
 
 is-page-requires : tie.Need-is-page-requires
 is-page-requires c κs = search needs
@@ -32,28 +32,21 @@ returns-3 : tie.Need-returns-3
 unfolding callRefusalOf firstMet
 returns-3 c =
     let a = c .before .before .before .before .args in
-    rw (le-ltb 32768 (a .n) (omega arith), le-ltb (a .scratch) 1281 (omega arith), no-page c)
+    rw (le-ltb 32768 (a .n) (omega arith), le-ltb (a .scratch) 65535 (omega arith), no-page c)
 
 returns-4 : tie.Need-returns-4
 unfolding callRefusalOf firstMet
 returns-4 c =
     let e = c .before in
     let a = e .before .before .before .before .args in
-    rw (le-ltb 32768 (a .n) (omega arith), le-ltb (a .scratch) 1281 (omega arith), some-page e, lt-ltb (a .copy) (a .n) (omega arith))
+    rw (le-ltb 32768 (a .n) (omega arith), le-ltb (a .scratch) 65535 (omega arith), some-page e, lt-ltb (a .copy) (a .n) (omega arith))
 
 returns-5 : tie.Need-returns-5
 unfolding callRefusalOf firstMet
 returns-5 c =
-    let e = c .before .before in
+    let e = c .before in
     let a = e .before .before .before .before .args in
-    rw (le-ltb 32768 (a .n) (omega arith), le-ltb (a .scratch) 1281 (omega arith), some-page e, le-ltb (a .copy) (a .n) (omega arith), lt-ltb (a .phrase) 1024 (omega arith))
-
-returns-6 : tie.Need-returns-6
-unfolding callRefusalOf firstMet
-returns-6 c =
-    let e = c .before .before in
-    let a = e .before .before .before .before .args in
-    rw (le-ltb 32768 (a .n) (omega arith), le-ltb (a .scratch) 1281 (omega arith), some-page e, le-ltb (a .copy) (a .n) (omega arith), le-ltb (a .phrase) 1024 (omega arith))
+    rw (le-ltb 32768 (a .n) (omega arith), le-ltb (a .scratch) 65535 (omega arith), some-page e, le-ltb (a .copy) (a .n) (omega arith))
 
 pub refused-spec : {M : Type 1} → statement M
-refused-spec = tie.close (tie.spec returns returns-2 is-page-requires returns-3 returns-4 returns-5 returns-6)
+refused-spec = tie.close (tie.spec returns returns-2 is-page-requires returns-3 returns-4 returns-5)

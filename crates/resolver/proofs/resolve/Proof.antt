@@ -1,10 +1,10 @@
--- `resolver::resolve` meets its contract: the tests in their order, then the text folded, the cues resolved, and the work buffers cleared. Assumes nothing.
+-- `resolver::resolve` meets its contract: the tests in their order, then the text folded and the groups resolved; where there is no cue, the scratch cleared. Assumes nothing.
 use borrow.Author.Needs.{needs}
-use mathlib.Core.Path.{_≡_, sym, ap, _∙_}
+use mathlib.Core.Path.{_≡_, refl, sym, ap, _∙_}
 use mathlib.Core.List.{List, _++_, map}
 use Prim.Native.Nat.{ℕ, _*_, _≤_}
 use native.Mathlib.Omega.{arith}
-use lib.ListN.{length, take, drop, replicate, length-map}
+use lib.ListN.{length, take, drop, length-map}
 use Rattle.matching.proofs.Received.{received-front}
 use Rattle.fold.specs.Fold.{foldOn}
 use Rattle.fold.proofs.Fold.{letters-made, letters-left}
@@ -14,17 +14,18 @@ use Rattle.cue_book.proofs.Books.{accepted-book}
 use Rattle.outcome.specs.Outcome.{Call, callRefusal}
 use Rattle.outcome.proofs.Calls.{Enough, enough}
 use Rattle.resolver.specs.Resolver.{call}
+use Rattle.resolver.proofs.Walking.{along-first, along-end}
 use Rattle.resolver.proofs.Calls.{resolved-memory, resolved-book, resolved-few, resolved-works}
 use Rattle.resolver.proofs.resolve.Statement.{statement}
 use Rattle.resolver.proofs.resolve.Tie as tie
 
 -- the call, as it came in
 abbrev called : tie.Start → Call
-called s = let a = s .args in call (a .page) (a .text .now) (a .copy .now) (a .phrase .now) (a .scratch .now) (a .entries .now)
+called s = let a = s .args in call (a .page) (a .text .now) (a .copy .now) (a .scratch .now) (a .entries .now)
 
 -- the places after the tests of the memory, of the book and of the entries, and where the call came in
 abbrev start : tie.Else1 → tie.Start
-start e = e .before .before .before .before .before .before .before .before
+start e = e .before .before .before .before .before .before .before
 
 abbrev tested : tie.Else2 → tie.Else1
 tested e = e .before .before .before
@@ -32,15 +33,12 @@ tested e = e .before .before .before
 abbrev accepted : tie.After-letters → tie.Else2
 accepted l = l .before .before .before .before
 
--- the places after the text was folded, after the cues were resolved, and after the phrase buffer was cleared
-abbrev folding : tie.After-resolve-cues → tie.After-letters
-folding k = k .before .before .before .before .before .before .before
+-- the place after the text was folded, from where no cue is and from where there is one
+abbrev none : tie.Then4 → tie.After-letters
+none e = e .before .before .before
 
-abbrev resolving : tie.After-clear-bytes → tie.After-resolve-cues
-resolving b = b .before .before .before .before .before .before .before .before
-
-abbrev clearing : tie.After-set-all → tie.After-clear-bytes
-clearing n = n .before .before .before .before
+abbrev some : tie.Else4 → tie.After-letters
+some e = e .before .before .before
 
 -- the memory passed its tests
 fine : (e : tie.Else1) → callRefusal (called (start e)) ≡ 0
@@ -89,13 +87,13 @@ refused-requires : tie.Need-refused-requires
 refused-requires c κs = search needs
 
 returns : tie.Need-returns
-returns c = resolved-memory _ _ _ _ _ _ _ (c .before .refused .ensures) (c .if1 .taken)
+returns c = resolved-memory _ _ _ _ _ _ (c .before .refused .ensures) (c .if1 .taken)
 
 read-book-requires : tie.Need-read-book-requires
 read-book-requires c κs = search needs
 
 returns-2 : tie.Need-returns-2
-returns-2 c = let b = c .before .before in resolved-book _ _ _ _ _ _ _ (fine (b .before)) (b .read-book .ensures) (c .if2 .taken)
+returns-2 c = let b = c .before .before in resolved-book _ _ _ _ _ _ (fine (b .before)) (b .read-book .ensures) (c .if2 .taken)
 
 cast-cues : tie.Need-cast-cues
 cast-cues c = search needs
@@ -104,28 +102,10 @@ mul-if3 : tie.Need-mul-if3
 mul-if3 c = search needs
 
 returns-3 : tie.Need-returns-3
-returns-3 c = let e = c .before .before in resolved-few _ _ _ _ _ _ _ (fine (tested e)) (read e .0) (omega (arith, number e, c .if3 .taken))
+returns-3 c = let e = c .before .before in resolved-few _ _ _ _ _ _ (fine (tested e)) (read e .0) (omega (arith, number e, c .if3 .taken))
 
 letters-requires : tie.Need-letters-requires
 letters-requires c κs = search needs
-
-slice-reshare-prefix-resolve-cues : tie.Need-slice-reshare-prefix-resolve-cues
-slice-reshare-prefix-resolve-cues c =
-    let l = c .before .before in
-    let same : length (l .letters .last .1 .1 .0) ≡ length (copy l) = l .letters .kept .1 .1 .0 in
-    let enough : length (text l) ≤ length (l .letters .last .1 .1 .0) = omega (arith, same, lent l .whole) in
-    enough
-
-slice-aggregate-resolve-cues : tie.Need-slice-aggregate-resolve-cues
-slice-aggregate-resolve-cues c = let l = c .before .before .before in sym (ap length (held l) ∙ length-map (text l) (foldOn (entry l .args .page)))
-
-resolve-cues-requires : tie.Need-resolve-cues-requires
-resolve-cues-requires c κs =
-    let l = c .before .before .before .before .before .before in
-    record { read = read (accepted l) .0; number = number (accepted l); three = three l; known = lent l .known; small = lent l .small; copied = held l; buffer = lent l .buffer; tables = lent l .tables }
-
-clear-bytes-requires : tie.Need-clear-bytes-requires
-clear-bytes-requires c κs = search needs
 
 set-all-requires : tie.Need-set-all-requires
 set-all-requires c κs = search needs
@@ -136,22 +116,46 @@ same-length c = search needs
 same-length-2 : tie.Need-same-length-2
 same-length-2 c = search needs
 
+returns-4 : tie.Need-returns-4
+returns-4 c =
+    let s = c .before .before in
+    let e = s .before .before in
+    let l = none e in
+    let a = entry l .args in
+    let cs = cuesIn (readBook (a .book .now)) in
+    resolved-works _ _ _ _ _ _ (fine (tested (accepted l))) (read (accepted l) .0) (three l) (copied l)
+    (along-end (along-first (a .page) (a .book .now) (a .text .now) cs (a .entries .now) (read (accepted l) .0)) refl (omega (arith, number (accepted l), e .if4 .taken)) (s .set-all .ensures))
+
+slice-reshare-prefix-resolve-groups : tie.Need-slice-reshare-prefix-resolve-groups
+slice-reshare-prefix-resolve-groups c =
+    let l = some c in
+    let same : length (l .letters .last .1 .1 .0) ≡ length (copy l) = l .letters .kept .1 .1 .0 in
+    let enough : length (text l) ≤ length (l .letters .last .1 .1 .0) = omega (arith, same, lent l .whole) in
+    enough
+
+slice-aggregate-resolve-groups : tie.Need-slice-aggregate-resolve-groups
+slice-aggregate-resolve-groups c = let l = some (c .before) in sym (ap length (held l) ∙ length-map (text l) (foldOn (entry l .args .page)))
+
+resolve-groups-requires : tie.Need-resolve-groups-requires
+resolve-groups-requires c κs =
+    let e = c .before .before .before in
+    let l = some e in
+    record { read = read (accepted l) .0; number = number (accepted l); some = omega (arith, e .if4 .left); known = lent l .known; small = lent l .small; copied = held l; room = lent l .tables }
+
 same-length-3 : tie.Need-same-length-3
 same-length-3 c = search needs
 
 same-length-4 : tie.Need-same-length-4
 same-length-4 c = search needs
 
-returns-4 : tie.Need-returns-4
-returns-4 c =
-    let n = c .before .before in
-    let b = clearing n in
-    let k = resolving b in
-    let l = folding k in
-    resolved-works _ _ _ _ _ _ _ (fine (tested (accepted l))) (read (accepted l) .0) (three l) (copied l)
-    (b .clear-bytes .ensures ∙ ap (λ (n : ℕ). replicate n 0) (k .resolve-cues .kept .1 .1 .1 .1 .1 .0))
-    (n .set-all .ensures ∙ ap (λ (n : ℕ). replicate n 0) (k .resolve-cues .kept .1 .1 .1 .1 .1 .1 .0))
-    (k .resolve-cues .ensures)
+same-length-5 : tie.Need-same-length-5
+same-length-5 c = search needs
+
+returns-5 : tie.Need-returns-5
+returns-5 c =
+    let k = c .before .before .before .before in
+    let l = some (k .before .before .before .before) in
+    resolved-works _ _ _ _ _ _ (fine (tested (accepted l))) (read (accepted l) .0) (three l) (copied l) (k .resolve-groups .ensures)
 
 pub resolve-spec : {M : Type 1} → statement M
 resolve-spec =
@@ -165,13 +169,14 @@ resolve-spec =
     mul-if3
     returns-3
     letters-requires
-    slice-reshare-prefix-resolve-cues
-    slice-aggregate-resolve-cues
-    resolve-cues-requires
-    clear-bytes-requires
     set-all-requires
     same-length
     same-length-2
+    returns-4
+    slice-reshare-prefix-resolve-groups
+    slice-aggregate-resolve-groups
+    resolve-groups-requires
     same-length-3
     same-length-4
-    returns-4)
+    same-length-5
+    returns-5)
