@@ -1,9 +1,9 @@
-/* The library's eight engines, its late cuts, its book reader and its folding by page 15 written again in plain C, from the steps of documents 01 and
- * 02, to measure the library against.
+/* The library's eight engines, its late cuts, its book reader, its resolver and its folding by page 15 written again in plain C, from the steps of
+ * documents 01 and 02, to measure the library against.
  *
  * Each twin takes the memory that the library is lent and leaves it the same: its tables at the scratch's front, the first places in the list. What
  * the library refuses is not tested here: the phrase has 1 to 1,024 bytes, the text at most 32,768, the scratch is long enough, and nothing overlaps.
- * The book reader is the exception: its refusals are its work; so is the test of a late cut's list.
+ * The book reader is the exception: its refusals are its work, and the resolver's from the book's own on; so is the test of a late cut's list.
  */
 #ifndef TWINS_H
 #define TWINS_H
@@ -56,6 +56,15 @@ struct twin_answer twin_relist(const uint8_t *phrase, size_t m, const uint8_t *t
                                size_t end, const uint8_t *letters, size_t letters_len, uint32_t *restrict lent, size_t lent_len);
 
 struct twin_answer twin_read_book(const uint8_t *book, size_t book_len);
+
+/* A refusal or 0, the number of cues or the index of the refused one, and the letters of the text read. */
+struct twin_resolving {
+    uint32_t refusal, number, reads;
+};
+
+/* The places, lines and columns of a book's cues by page 1 or 15, with a copy of at least n bytes and a scratch of at least 65,535 entries. */
+struct twin_resolving twin_resolve(uint32_t page, const uint8_t *book, size_t book_len, const uint8_t *text, size_t n, uint8_t *restrict copy,
+                                   uint16_t *restrict scratch, size_t scratch_len, uint32_t *restrict entries, size_t entries_len);
 
 /* Folds n letters by page 15 into a target of as many. */
 void twin_fold(const uint8_t *restrict text, size_t n, uint8_t *restrict target);

@@ -1,12 +1,13 @@
 //! Cue books: reading one, and resolving its cues.
 
 use crate::clock::{rounds, Side};
+use crate::goals;
 use crate::lent::Lent;
 use crate::random::Random;
 use crate::statistics::least;
 use crate::texts::{Family, Text};
-use crate::twins::BUILDS;
-use libretto::{find_raw, fold_text, read_book_raw, resolve_raw, write_cue, Method, Page, CUES_MAX, CUE_MAX, TEXT_MAX};
+use crate::twins::{Build, BUILDS};
+use libretto::{find_raw, fold_text, read_book_raw, resolve_raw, write_cue, Method, Page, ResolverMemory, CUES_MAX, CUE_MAX, TEXT_MAX};
 use std::hint::black_box;
 
 /// The page that cues are resolved by: the verse is in ISO 8859-1.
@@ -28,11 +29,13 @@ impl Libretto {
         Libretto { letters, folded }
     }
 
-    /// The books of this text: of short, of mixed and of long phrases.
+    /// The books of this text: of short phrases, of a few words to a line, of mixed and of long ones. Those of long ones have no goal: their groups are
+    /// of a few cues, and each reads every letter, where a find leaves most of them out.
     pub fn books(&self) -> Vec<Book> {
-        [("short, 2 to 8", 2, 8), ("mixed, 2 to 200", 2, 200), ("long, 200 to 1,000", 200, 1000)]
-            .map(|(phrases, least, most)| Book::new(phrases, least, most, self))
-            .into()
+        let short = Book::new("short, 2 to 8", Some(goals::SHORT_BOOK), 2, 8, self);
+        let lines = Book::new("lines, 8 to 40", Some(goals::MIXED_BOOK), 8, 40, self);
+        let mixed = Book::new("mixed, 2 to 200", Some(goals::MIXED_BOOK), 2, 200, self);
+        vec![short, lines, mixed, Book::new("long, 200 to 1,000", None, 200, 1000, self)]
     }
 }
 
@@ -40,6 +43,8 @@ impl Libretto {
 pub struct Book {
     /// The lengths of its phrases, in words.
     pub phrases: &'static str,
+    /// The most time of a resolve, in times of as many full finds by FJS in C, where there is such a goal.
+    pub goal: Option<f64>,
     /// The book itself.
     pub bytes: Vec<u8>,
     folded: Vec<Vec<u8>>,
@@ -47,12 +52,12 @@ pub struct Book {
 }
 
 impl Book {
-    fn new(phrases: &'static str, least: usize, most: usize, text: &Libretto) -> Book {
+    fn new(phrases: &'static str, goal: Option<f64>, least: usize, most: usize, text: &Libretto) -> Book {
         let mut random = Random::new(most as u64);
-        let mut book = Book { phrases, bytes: Vec::new(), folded: Vec::new(), ordinals: Vec::new() };
+        let mut book = Book { phrases, goal, bytes: Vec::new(), folded: Vec::new(), ordinals: Vec::new() };
         for cue in 0..CUES_MAX {
             let length = random.between(least, most);
-            let place = cue * (TEXT_MAX - length) / CUES_MAX;
+            let place = cue * (TEXT_MAX - most) / CUES_MAX;
             let folded = &text.folded[place..place + length];
             let ordinal = text.folded[..place + length].windows(length).filter(|&window| window == folded).count();
             let title = &text.letters[place..place + length.min(random.between(0, 60))];
@@ -68,6 +73,11 @@ impl Book {
         let length = write_cue(&mut cue, phrase, number, title).expect("the cue keeps the limits");
         self.bytes.extend_from_slice(&cue[..length]);
         self.ordinals.push(ordinal);
+    }
+
+    /// The groups that its cues are resolved in.
+    pub fn groups(&self) -> usize {
+        reference::groups(&reference::cues(&self.bytes).expect("the book keeps the limits")).len()
     }
 
     /// Ends the program unless all sides agree on this book.
@@ -99,16 +109,35 @@ impl Book {
         }
     }
 
-    /// The entries of all cues, which library and reference must write alike.
+    /// The entries of all cues, which library, twins and reference must write alike. A side that is wrong where a cue is missing could be faster, so
+    /// they must agree on the text's first half too, where the later cues are.
     fn check_resolving(&self, text: &Libretto, lent: &mut Lent) -> Vec<u32> {
-        let mut other = lent.clone();
+        for letters in [&text.letters[..TEXT_MAX / 2], &text.letters] {
+            self.check_side("the reference", letters, |memory| {
+                reference::resolve(PAGE.number(), &self.bytes, letters, memory.copy, memory.scratch, memory.entries)
+            });
+            BUILDS.iter().for_each(|build| self.check_side("C", letters, |memory| self.resolve_by_twin(build, letters, memory)));
+        }
         let raw = resolve_raw(PAGE.number(), &self.bytes, &text.letters, &mut lent.for_resolver());
-        let memory = other.for_resolver();
-        let answer = reference::resolve(PAGE.number(), &self.bytes, &text.letters, memory.copy, memory.phrase, memory.scratch, memory.entries);
-        assert_eq!((raw.refusal, raw.number), (0, CUES_MAX as u32), "{}: the library resolves all cues", self.phrases);
-        assert_eq!((raw.refusal, raw.number), answer, "{}: the reference's answer", self.phrases);
-        assert!(*lent == other, "{}: library and reference leave different memory", self.phrases);
+        let due = (0, CUES_MAX as u32, (TEXT_MAX * self.groups()) as u32);
+        assert_eq!((raw.refusal, raw.number, raw.reads), due, "{}: the library resolves all cues", self.phrases);
         lent.for_resolver().entries.to_vec()
+    }
+
+    fn resolve_by_twin(&self, build: &Build, letters: &[u8], memory: &mut ResolverMemory<'_>) -> (u32, u32, u32) {
+        let given = build.resolve(PAGE, &self.bytes, letters, memory);
+        (given.refusal, given.number, given.reads)
+    }
+
+    /// Ends the program unless this side answers as the library does on these letters, and leaves the same memory, which is dirty before.
+    fn check_side(&self, side: &str, letters: &[u8], resolve: impl Fn(&mut ResolverMemory<'_>) -> (u32, u32, u32)) {
+        let dirt = Lent::dirty(&mut Random::new(3));
+        let (mut library, mut other) = (dirt.clone(), dirt);
+        let raw = resolve_raw(PAGE.number(), &self.bytes, letters, &mut library.for_resolver());
+        let answer = resolve(&mut other.for_resolver());
+        let told = format!("phrases {}, {} letters", self.phrases, letters.len());
+        assert_eq!((raw.refusal, raw.number, raw.reads), answer, "{told}: the library (left) and {side} answer differently");
+        assert!(library == other, "{told}: the library and {side} leave different memory");
     }
 }
 
@@ -128,7 +157,7 @@ pub struct Contest<'a> {
     reading: Side<'a>,
     twins_reading: Vec<Side<'a>>,
     resolving: Side<'a>,
-    finding: Side<'a>,
+    twins_resolving: Vec<Side<'a>>,
     twins_finding: Vec<Side<'a>>,
 }
 
@@ -141,19 +170,20 @@ impl<'a> Contest<'a> {
         let resolving = Side::new(|lent| {
             black_box(resolve_raw(PAGE.number(), &book.bytes, &text.letters, &mut lent.for_resolver()));
         });
-        let finding = Side::new(|lent| {
-            for phrase in &book.folded {
-                black_box(find_raw(Method::Fjs.number(), phrase, &text.folded, &mut lent.scratch, &mut lent.list));
-            }
-        });
-        Contest { reading, twins_reading: twins_reading(book), resolving, finding, twins_finding: twins_finding(book, text) }
+        let twins_resolving = |build: &'static Build| {
+            Side::new(move |lent| {
+                black_box(build.resolve(PAGE, &book.bytes, &text.letters, &mut lent.for_resolver()));
+            })
+        };
+        let twins_resolving = BUILDS.iter().map(twins_resolving).collect();
+        Contest { reading, twins_reading: twins_reading(book), resolving, twins_resolving, twins_finding: twins_finding(book, text) }
     }
 
     /// So many rounds of all sides.
     pub fn run(&mut self, count: usize, lent: &mut Lent) {
         let reading = std::iter::once(&mut self.reading).chain(&mut self.twins_reading);
-        let finding = [&mut self.resolving, &mut self.finding].into_iter().chain(&mut self.twins_finding);
-        rounds(&mut reading.chain(finding).collect::<Vec<_>>(), count, lent);
+        let resolving = std::iter::once(&mut self.resolving).chain(&mut self.twins_resolving);
+        rounds(&mut reading.chain(resolving).chain(&mut self.twins_finding).collect::<Vec<_>>(), count, lent);
     }
 
     /// The best times so far.
@@ -162,14 +192,14 @@ impl<'a> Contest<'a> {
             reading: self.reading.best(),
             twin_reading: least(self.twins_reading.iter().map(Side::best)),
             resolving: self.resolving.best(),
-            finding: self.finding.best(),
+            twin_resolving: least(self.twins_resolving.iter().map(Side::best)),
             twin_finding: least(self.twins_finding.iter().map(Side::best)),
         }
     }
 }
 
 fn twins_reading(book: &Book) -> Vec<Side<'_>> {
-    let side = |build: &'static crate::twins::Build| {
+    let side = |build: &'static Build| {
         Side::new(move |_| {
             black_box(build.read_book(&book.bytes));
         })
@@ -178,7 +208,7 @@ fn twins_reading(book: &Book) -> Vec<Side<'_>> {
 }
 
 fn twins_finding<'a>(book: &'a Book, text: &'a Libretto) -> Vec<Side<'a>> {
-    let side = |build: &'static crate::twins::Build| {
+    let side = |build: &'static Build| {
         Side::new(move |lent| {
             for phrase in &book.folded {
                 black_box(build.find(Method::Fjs, phrase, &text.folded, lent));
@@ -196,8 +226,47 @@ pub struct BookTimes {
     pub twin_reading: f64,
     /// All cues resolved by the library.
     pub resolving: f64,
-    /// A full find for each cue by the library's method 4.
-    pub finding: f64,
+    /// The same by the best build of the C twin.
+    pub twin_resolving: f64,
     /// A full find for each cue by the best build of the FJS twin.
     pub twin_finding: f64,
+}
+
+#[cfg(test)]
+mod tests {
+    use super::*;
+
+    /// The front of the verse, which has the first cues, and the book of short phrases.
+    fn front() -> (Vec<u8>, Book) {
+        let text = Libretto::new();
+        let book = text.books().swap_remove(0);
+        (text.letters[..3000].to_vec(), book)
+    }
+
+    #[test]
+    fn twins_resolve_as_the_library_does() {
+        let (letters, book) = front();
+        BUILDS.iter().for_each(|build| book.check_side("C", &letters, |memory| book.resolve_by_twin(build, &letters, memory)));
+    }
+
+    #[test]
+    #[should_panic(expected = "a side that counts no reads answer differently")]
+    fn a_wrong_answer_is_found() {
+        let (letters, book) = front();
+        book.check_side("a side that counts no reads", &letters, |memory| {
+            let (refusal, number, _) = book.resolve_by_twin(&BUILDS[0], &letters, memory);
+            (refusal, number, 0)
+        });
+    }
+
+    #[test]
+    #[should_panic(expected = "a side that does not clear its scratch leave different memory")]
+    fn wrong_memory_is_found() {
+        let (letters, book) = front();
+        book.check_side("a side that does not clear its scratch", &letters, |memory| {
+            let answer = book.resolve_by_twin(&BUILDS[0], &letters, memory);
+            memory.scratch[40_000] = 1;
+            answer
+        });
+    }
 }

@@ -1,4 +1,4 @@
-//! Folding a text by each page, and by page 15 beside a loop over a constant table in C.
+//! Folding a text by each page, by page 15 beside a loop over a constant table in C, and as the resolver does it.
 
 use crate::books::Libretto;
 use crate::clock::{rounds, Side};
@@ -31,10 +31,10 @@ pub fn check(text: &Libretto) {
     }
 }
 
-/// The resolver by a page on a book without cues: the text is folded into the copy, and the buffers are cleared.
-fn resolving(page: Page, text: &Libretto) -> Side<'_> {
+/// The library's folding of a text by a page.
+fn folding(page: Page, text: &Libretto) -> Side<'_> {
     Side::new(move |lent| {
-        black_box(resolve_raw(page.number(), &[], &text.letters, &mut lent.for_resolver()));
+        black_box(fold_text_raw(page.number(), &text.letters, lent.for_resolver().copy));
     })
 }
 
@@ -42,28 +42,28 @@ fn resolving(page: Page, text: &Libretto) -> Side<'_> {
 pub struct Contest<'a> {
     page_1: Side<'a>,
     page_15: Side<'a>,
-    text_15: Side<'a>,
     twins: Vec<Side<'a>>,
+    no_cues: Side<'a>,
 }
 
 impl<'a> Contest<'a> {
-    /// The resolver by both pages, the library's folding of a text by page 15, and its twins.
+    /// The library's folding of a text by both pages, the twins by page 15, and a resolve of a book without cues by page 1.
     pub fn new(text: &'a Libretto) -> Contest<'a> {
-        let text_15 = Side::new(|lent: &mut Lent| {
-            black_box(fold_text_raw(Page::Latin9.number(), &text.letters, lent.for_resolver().copy));
+        let no_cues = Side::new(|lent: &mut Lent| {
+            black_box(resolve_raw(Page::Latin1.number(), &[], &text.letters, &mut lent.for_resolver()));
         });
         let twin = |build: &'static Build| {
             Side::new(move |lent: &mut Lent| {
                 build.fold(&text.letters, black_box(lent.for_resolver().copy));
             })
         };
-        let [page_1, page_15] = Page::ALL.map(|page| resolving(page, text));
-        Contest { page_1, page_15, text_15, twins: BUILDS.iter().map(twin).collect() }
+        let [page_1, page_15] = Page::ALL.map(|page| folding(page, text));
+        Contest { page_1, page_15, twins: BUILDS.iter().map(twin).collect(), no_cues }
     }
 
     /// So many rounds of all sides.
     pub fn run(&mut self, count: usize, lent: &mut Lent) {
-        let sides = [&mut self.page_1, &mut self.page_15, &mut self.text_15].into_iter().chain(&mut self.twins);
+        let sides = [&mut self.page_1, &mut self.page_15, &mut self.no_cues].into_iter().chain(&mut self.twins);
         rounds(&mut sides.collect::<Vec<_>>(), count, lent);
     }
 
@@ -72,22 +72,22 @@ impl<'a> Contest<'a> {
         FoldingTimes {
             page_1: self.page_1.best(),
             page_15: self.page_15.best(),
-            text_15: self.text_15.best(),
             twin: least(self.twins.iter().map(Side::best)),
+            no_cues: self.no_cues.best(),
         }
     }
 }
 
 /// The times of folding a text of 32,768 bytes, in nanoseconds.
 pub struct FoldingTimes {
-    /// The resolver by page 1, on a book without cues.
+    /// The library by page 1.
     pub page_1: f64,
-    /// The same by page 15.
+    /// The library by page 15.
     pub page_15: f64,
-    /// The library's folding of a text by page 15.
-    pub text_15: f64,
-    /// The best build of the loop in C.
+    /// The best build of the loop in C by page 15.
     pub twin: f64,
+    /// A resolve of a book without cues by page 1, which clears the scratch too.
+    pub no_cues: f64,
 }
 
 #[cfg(test)]

@@ -10,8 +10,12 @@ pub const MEAN: f64 = 1.05;
 pub const CLASS: f64 = 1.3;
 /// The least speed of folding by page 1, in bytes a nanosecond.
 pub const FOLDING: f64 = 1.0;
-/// The most time of the resolver, in times of as many full finds by method 4.
-pub const RESOLVER: f64 = 0.6;
+/// The largest ratio of the resolver to its C twin, for each book.
+pub const RESOLVER: f64 = 1.1;
+/// The most time of the resolver for a book of short phrases, in times of as many full finds by FJS in C.
+pub const SHORT_BOOK: f64 = 0.15;
+/// The same for a book of mixed phrases.
+pub const MIXED_BOOK: f64 = 0.25;
 /// The largest exponent with which the time of KMP and FJS may grow in n: linear, with some room for the clock.
 pub const EXPONENT: f64 = 1.1;
 

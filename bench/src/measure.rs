@@ -73,8 +73,12 @@ pub struct CutResult {
 pub struct BookResult {
     /// The lengths of its phrases, in words.
     pub phrases: &'static str,
+    /// The most time of a resolve, in times of as many full finds by FJS in C, where there is such a goal.
+    pub goal: Option<f64>,
     /// Its length in bytes.
     pub length: usize,
+    /// How often the text is read.
+    pub groups: usize,
     /// Its times.
     pub times: BookTimes,
 }
@@ -158,8 +162,13 @@ fn books(lent: &mut Lent) -> (Vec<BookResult>, FoldingTimes) {
         contests.iter_mut().for_each(|contest| contest.run(ROUNDS, lent));
         folding.run(ROUNDS, lent);
     }
-    let result =
-        |(book, contest): (&books::Book, &books::Contest)| BookResult { phrases: book.phrases, length: book.bytes.len(), times: contest.times() };
+    let result = |(book, contest): (&books::Book, &books::Contest)| BookResult {
+        phrases: book.phrases,
+        goal: book.goal,
+        length: book.bytes.len(),
+        groups: book.groups(),
+        times: contest.times(),
+    };
     (books.iter().zip(&contests).map(result).collect(), folding.times())
 }
 
