@@ -1,7 +1,5 @@
--- What `find`, `find_moves` and `nth` bring to the search that they share, from a call that is not refused, and what the finds make of what it found.
--- Assumes nothing.
-use mathlib.Core.Path.{_≡_, refl, _∙_}
-use mathlib.Core.Logic.{inl}
+-- What `find` and `find_moves` bring to the search that they share, from a call that is not refused, and what they make of what it found. Assumes nothing.
+use mathlib.Core.Path.{_≡_, _∙_}
 use Prim.Native.Nat.{ℕ, _+_, _≤_}
 use native.Mathlib.Omega.{arith}
 use mathlib.Core.Bool.{Bool}
@@ -44,16 +42,16 @@ module _ {P T scratch scratch′ : List ℕ} (left : scratch′ ≡ prepared P T
   pub found-none : {list : List ℕ} {number : ℕ} → number ≡ refusalOf fjs P T scratch → (number ≡ 0 → ⊥) → Found fjs P T scratch list (record { refusal = number; total = 0; comparisons = 0 }) scratch′ list
   found-none {list} {number} is some = let f : Found fjs P T scratch list (record { refusal = number; total = 0; comparisons = 0 }) scratch list = found-refused is some in record { answer = f .answer; left = left; listed = f .listed }
 
--- a search without a limit, in a call that is not refused: its numbers fit 32 bits, the find keeps its promise, and demand 3's bound is that of the steps
-module _ {P T scratch list list′ noted noted′ : List ℕ} {noting : Bool} {r : Tally} (a : Accepted fjs P T scratch) (s : Searched P T list 0 noted noting r list′ noted′) where
+-- a search in a call that is not refused: its numbers fit 32 bits, the find keeps its promise, and demand 3's bound is that of the steps
+module _ {P T scratch list list′ noted noted′ : List ℕ} {noting : Bool} {r : Tally} (a : Accepted fjs P T scratch) (s : Searched P T list noted noting r list′ noted′) where
   pub total-fits : r .total ≤ 32769
-  total-fits = omega (arith, s .total (inl refl), occurrences-few P T, a .limits .small)
+  total-fits = omega (arith, s .total, occurrences-few P T, a .limits .small)
 
   pub looks-fit : r .comparisons ≤ 33588225
-  looks-fit = let l = a .limits in omega (arith, s .comparisons (inl refl), compared-fits fjs (sound P T (l .some)) (l .short) (l .small))
+  looks-fit = let l = a .limits in omega (arith, s .comparisons, compared-fits fjs (sound P T (l .some)) (l .short) (l .small))
 
   pub found-all : {scratch′ : List ℕ} → scratch′ ≡ prepared P T scratch → Found fjs P T scratch list (record { refusal = 0; total = r .total; comparisons = r .comparisons }) scratch′ list′
-  found-all left = found-accepted (a .none) (s .total (inl refl)) (s .comparisons (inl refl)) (made left a) (s .listed (inl refl))
+  found-all left = found-accepted (a .none) (s .total) (s .comparisons) (made left a) (s .listed)
 
   pub found-bounded : Bounded P T (r .comparisons)
-  found-bounded h = omega (arith, s .comparisons (inl refl), bound P T (a .limits .some) h)
+  found-bounded h = omega (arith, s .comparisons, bound P T (a .limits .some) h)

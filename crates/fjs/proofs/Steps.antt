@@ -1,18 +1,17 @@
 -- One window of the search, as its code goes through it: the last letter first where nothing is carried, then left to right up to a letter `until`. Assumes nothing.
 use mathlib.Core.Path.{_≡_, refl, sym, ap, subst, _∙_}
-use mathlib.Core.Logic.{_⊎_, inl, inr, ⊎-elim}
-use Prim.Native.Nat.{ℕ, zero, suc, _+_, _-_, _≤_, _<_, min}
+use mathlib.Core.Logic.{_⊎_, ⊎-elim}
+use Prim.Native.Nat.{ℕ, _+_, _-_, _≤_, _<_, min}
 use native.Mathlib.Omega.{arith}
 use mathlib.Core.Bool.{Bool, true}
 use mathlib.Core.List.{List, []}
 use lib.ListN.{length, getD, set}
 use borrow.Author.Tests.{eq-eqb, ne-eqb}
-use Rattle.matching.specs.Occurrences.{occurrences}
 use Rattle.matching.specs.Letters.{reach}
 use Rattle.matching.specs.Machine.{State, stop, at, runFrom}
 use Rattle.matching.proofs.CaseAnalysis.{at-same}
 use Rattle.matching.proofs.Letters.{reach-equal, reach-done, Upward, up-stops, looks-part, looks-all}
-use Rattle.matching.proofs.Progress.{Progress, Over, same-list, over-total, over-compared, over-listed, reported-as, missed-as, reported-more, reported-place, hit-up, miss-up}
+use Rattle.matching.proofs.Progress.{Progress, Over, same-list, over-total, over-compared, over-listed, reported-as, missed-as, hit-up, miss-up}
 use Rattle.letter_tables.specs.Moves.{sundayMove}
 use Rattle.border_tables.specs.Moves.{kmpMove}
 use Rattle.fjs_steps.specs.Fjs.{sunday, kmp, step, window, fjs}
@@ -111,65 +110,19 @@ module _ {P T list₀ : List ℕ} {s q total compared : ℕ} {list : List ℕ} (
           (λ f. rw (← ends) (hit-up p inside (window-carried P T s q (f .0)) (sym ends) refl (omega (arith, u .from, u .upto, f .1 .0, f .1 .1))))
           g
 
-      stood : window P T s q .stands ≡ true
-      stood =
-          ⊎-elim
-          (λ f.
-          rw (f .0) (rw (window-fresh P T s some inside (f .1 .0)) (eq-eqb (reach P T s 0) (length P) (ap (reach P T s) (sym (f .0)) ∙ ends))))
-          (λ f. rw (window-carried P T s q (f .0)) (eq-eqb (reach P T s q) (length P) ends)) g
-
-      -- and the window's start is the next occurrence
-      pub hit-more : total < length (occurrences P T)
-      hit-more = reported-more p inside stood
-
-      pub hit-place : getD (occurrences P T) total 0 ≡ s
-      hit-place = reported-place p inside stood
-
 -- ---- the search's end
 
--- a search goes on while the total has not reached its limit
-abbrev pub Under : ℕ → ℕ → Type 0
-Under limit total = (limit ≡ 0) ⊎ (total < limit)
-
-pub under-start : (limit : ℕ) → Under limit 0
-under-start zero = inl refl
-under-start (suc limit) = inr (omega arith)
-
-pub under-more : {limit total : ℕ} → Under limit total → (total + 1 ≡ limit → ⊥) → Under limit (total + 1)
-under-more u n = ⊎-elim (λ z. inl z) (λ h. inr (omega (arith, n))) u
-
 -- it ended with the text: nothing of the run is left at the state x
-pub searched-all : {P T list₀ list noted₀ noted : List ℕ} {noting : Bool} {x : State} {limit total looked last count : ℕ} → Over fjs P T list₀ total looked list
-    → length noted ≡ length noted₀ → (noting ≡ true → Noted P T noted₀ x count noted) → runFrom window P T x ≡ [] → count ≤ length T + 1 → Under limit total
-    → Searched P T list₀ limit noted₀ noting (record { total = total; comparisons = looked; last = last; moves = count }) list noted
-searched-all {P} {T} {limit = limit} o long n ended few u =
-    let short : 1 ≤ limit → limit ≤ length (occurrences P T) → ⊥ = λ h k. ⊎-elim (λ z. omega arith) (λ l. omega (arith, over-total o)) u in
+pub searched-all : {P T list₀ list noted₀ noted : List ℕ} {noting : Bool} {x : State} {total looked count : ℕ} → Over fjs P T list₀ total looked list
+    → length noted ≡ length noted₀ → (noting ≡ true → Noted P T noted₀ x count noted) → runFrom window P T x ≡ [] → count ≤ length T + 1
+    → Searched P T list₀ noted₀ noting (record { total = total; comparisons = looked; moves = count }) list noted
+searched-all o long n ended few =
     record {
       long = (same-list (o .progress), long);
       few = few;
-      total = λ _. over-total o;
-      comparisons = λ _. over-compared o;
-      listed = λ _. over-listed o;
-      moved = λ on _. all-counted (n on) ended;
-      kept = λ on _. all-kept (n on) ended;
-      reached = λ h k. absurd (short h k);
-      last = λ h k. absurd (short h k);
-    }
-
--- it ended at the occurrence that was wanted
-pub searched-one : {P T list₀ list noted₀ noted : List ℕ} {noting : Bool} {limit total looked last count : ℕ} → (length list ≡ length list₀) × (length noted ≡ length noted₀) → count ≤ length T + 1
-    → total + 1 ≡ limit → total < length (occurrences P T) → getD (occurrences P T) total 0 ≡ last
-    → Searched P T list₀ limit noted₀ noting (record { total = total + 1; comparisons = looked; last = last; moves = count }) list noted
-searched-one {P} {T} {limit = limit} {total = total} long few e more place =
-    let full : Under limit (length (occurrences P T)) → ⊥ = λ u. ⊎-elim (λ z. omega arith) (λ l. omega arith) u in
-    record {
-      long = long;
-      few = few;
-      total = λ u. absurd (full u);
-      comparisons = λ u. absurd (full u);
-      listed = λ u. absurd (full u);
-      moved = λ _ u. absurd (full u);
-      kept = λ _ u. absurd (full u);
-      reached = λ h k. e;
-      last = λ h k. sym place ∙ ap (λ (i : ℕ). getD (occurrences P T) i 0) (omega arith);
+      total = over-total o;
+      comparisons = over-compared o;
+      listed = over-listed o;
+      moved = λ on. all-counted (n on) ended;
+      kept = λ on. all-kept (n on) ended;
     }

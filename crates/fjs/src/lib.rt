@@ -1,6 +1,6 @@
 // The Franek-Jennings-Smyth engine (source document 001, Algorithm 3): Sunday's move while the last letter differs, KMP's move once letters are equal.
 // It depends on `fjs_steps` for its steps and demand 3's bound on them, on `matching`, and on `tables`, `letter_tables` and `border_tables` for the entries. Beside `find` it offers
-// `nth`, which stops at the occurrence that is wanted, and `find_moves`, which also lists by which rule the window moved.
+// `find_moves`, which also lists by which rule the window moved.
 use matching::Finding;
 ghost use mathlib.Core.Path.{_≡_};
 ghost use mathlib.Core.Bool.{cond};
@@ -12,15 +12,7 @@ ghost use Rattle.fjs_steps.specs.Fjs.{fjs, Bounded};
 ghost use Rattle.fjs_steps.specs.Moves.{putMove};
 ghost use Rattle.fjs_steps.specs.Scratch.{Ready};
 ghost use Rattle.fjs.specs.Listed.{finding, Listed};
-ghost use Rattle.fjs.specs.Nth.{Located};
 ghost use Rattle.fjs.specs.Search.{prepared, Searched};
-
-// Where the occurrence of an ordinal stands: the refusal of the call, a position, or that there is no such occurrence.
-pub enum Place {
-    Refused(u32),
-    At(u32),
-    Nothing,
-}
 
 // What a find with a list of moves gives back: what a find does, and the full total of moves.
 #[repr(C)]
@@ -31,11 +23,10 @@ pub struct MovesFinding {
     pub moves: u32,
 }
 
-// What a search found: how many occurrences, the comparisons made, where the last of these occurrences stands, and how many moves.
+// What a search found: how many occurrences, the comparisons made, and how many moves.
 struct Tally {
     total: usize,
     comparisons: usize,
-    last: usize,
     moves: usize,
 }
 
@@ -81,25 +72,23 @@ fn note(noting: bool, moves: &mut [u32], index: usize, old: usize, new: usize, r
     index
 }
 
-// Finds occurrences up to the limit, or all where it is 0, and notes the moves where they are asked for. The window starts at s, and its first q letters are carried.
+// Finds all occurrences, and notes the moves where they are asked for. The window starts at s, and its first q letters are carried.
 fn search(
     pattern: &[u8],
     text: &[u8],
     scratch: &[u16],
     list: &mut [u32],
-    limit: usize,
     moves: &mut [u32],
     noting: bool,
 ) -> Tally
     requires { ⌜ Ready (now pattern) (now text) (now scratch) ⌝ }
-    ensures { λ r. ⌜ Searched (now (pattern .entry)) (now (text .entry)) (now (list .entry)) limit (now (moves .entry)) noting r (now (list .exit)) (now (moves .exit)) ⌝ }
+    ensures { λ r. ⌜ Searched (now (pattern .entry)) (now (text .entry)) (now (list .entry)) (now (moves .entry)) noting r (now (list .exit)) (now (moves .exit)) ⌝ }
 {
     let m = pattern.len();
     let n = text.len();
     let end = m - 1;
     let mut total = 0;
     let mut compared = 0;
-    let mut last = 0;
     let mut moved = 0;
     let mut s = 0;
     let mut q = 0;
@@ -132,10 +121,6 @@ fn search(
             k = m;
             matching::store(list, total, s as u32);
             total += 1;
-            last = s;
-            if total == limit {
-                break;
-            }
         }
         let b = scratch[256 + k] as usize;
         let next = s + (k + 1 - b);
@@ -149,7 +134,6 @@ fn search(
     Tally {
         total,
         comparisons: compared,
-        last,
         moves: moved,
     }
 }
@@ -168,7 +152,7 @@ pub fn find(pattern: &[u8], text: &[u8], scratch: &mut [u16], list: &mut [u32]) 
         };
     }
     let mut none = [0; 0];
-    let r = search(pattern, text, scratch, list, 0, &mut none, false);
+    let r = search(pattern, text, scratch, list, &mut none, false);
     let found = r.total as u32;
     let looks = r.comparisons as u32;
     Finding {
@@ -199,7 +183,7 @@ pub fn find_moves(
             moves: 0,
         };
     }
-    let r = search(pattern, text, scratch, list, 0, moves, true);
+    let r = search(pattern, text, scratch, list, moves, true);
     let found = r.total as u32;
     let looks = r.comparisons as u32;
     let moved = r.moves as u32;
@@ -209,33 +193,4 @@ pub fn find_moves(
         comparisons: looks,
         moves: moved,
     }
-}
-
-// Where the occurrence of that ordinal stands, 1 being the first. It makes the tables and stops at that occurrence.
-pub fn nth(pattern: &[u8], text: &[u8], scratch: &mut [u16], ordinal: u32) -> Place
-    ensures { λ r. ⌜ Located (now (pattern .entry)) (now (text .entry)) (now (scratch .entry)) ordinal r (now (scratch .exit)) ⌝ }
-{
-    let refusal = prepare(pattern, text, scratch);
-    if refusal != 0 {
-        return Place::Refused(refusal);
-    }
-    if ordinal == 0 {
-        return Place::Nothing;
-    }
-    let mut none = [0; 0];
-    let mut unmoved = [0; 0];
-    let r = search(
-        pattern,
-        text,
-        scratch,
-        &mut none,
-        ordinal as usize,
-        &mut unmoved,
-        false,
-    );
-    if r.total < ordinal as usize {
-        return Place::Nothing;
-    }
-    let place = r.last as u32;
-    Place::At(place)
 }

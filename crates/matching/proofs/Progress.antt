@@ -6,8 +6,7 @@ use native.Mathlib.Omega.{arith}
 use native.Mathlib.Nat.{mul-le-mul}
 use mathlib.Core.Bool.{true, false, cond}
 use mathlib.Core.List.{List, [], _∷_, _++_, append-nil, append-assoc}
-use lib.ListN.{length, getD, set, length-append}
-use lib.Seq.{getD-at}
+use lib.ListN.{length, set, length-append}
 use borrow.Author.Tests.{eq-eqb, ne-eqb}
 use Rattle.matching.specs.Occurrences.{occurrences}
 use Rattle.matching.specs.Received.{received}
@@ -133,23 +132,6 @@ module _ {e : Engine} {P T list₀ : List ℕ} {s q total compared : ℕ} {list 
 
     pub missed-as : v .stands ≡ false → Progress e P T list₀ (v .next) total c list
     missed-as f = subst (λ n. Progress e P T list₀ (v .next) total n list) (sym sum) (rw is at (missed (rw is f)))
-
-  -- where the position of a window that reports stands among the occurrences: it is the next one
-  module _ (f : e .steps P T s q .stands ≡ true) where
-    among : occurrences P T ≡ positionsIn (p .done) ++ s ∷ positionsIn (runFrom (e .steps) P T (e .steps P T s q .next))
-    among =
-        sym (positions-are (p .sound)) ∙ ap positionsIn (sym onward) ∙ positions-append more (runFrom (e .steps) P T (e .steps P T s q .next))
-        ∙ ap (λ l. l ++ positionsIn (runFrom (e .steps) P T (e .steps P T s q .next))) (positions-more ∙ ap (λ t. positionsIn (p .done) ++ cond t (s ∷ []) []) f)
-        ∙ append-assoc (positionsIn (p .done)) (s ∷ []) (positionsIn (runFrom (e .steps) P T (e .steps P T s q .next)))
-
-    pub reported-more : total < length (occurrences P T)
-    reported-more =
-        omega
-        (arith, p .counted, ap length among, length-append (positionsIn (p .done)) (s ∷ positionsIn (runFrom (e .steps) P T (e .steps P T s q .next))))
-
-    pub reported-place : getD (occurrences P T) total 0 ≡ s
-    reported-place =
-        ap (λ l. getD l total 0) among ∙ getD-at (positionsIn (p .done)) s (positionsIn (runFrom (e .steps) P T (e .steps P T s q .next))) 0 total (sym (p .counted))
 
   -- what code has found of a window compared first to last: the first k letters are equal, and letter k + 1, if there is one, is not
   module _ {x : State} {k c : ℕ} (is : e .steps P T s q ≡ firstToLast P T s q x) (reached : k ≡ reach P T s q) where

@@ -1,4 +1,4 @@
--- `fjs::find` meets its contract: the tables are made, and a search without a limit finds all. Assumes nothing.
+-- `fjs::find` meets its contract: the tables are made, and the search finds all. Assumes nothing.
 use borrow.Author.Needs.{needs}
 use native.Mathlib.Omega.{arith}
 use Rattle.matching.proofs.Progress.{Accepted, accepted}

@@ -1,7 +1,6 @@
--- `fjs::find_moves` meets its contract: the tables are made, and a search without a limit finds all, noting the moves. Assumes nothing.
+-- `fjs::find_moves` meets its contract: the tables are made, and the search finds all, noting the moves. Assumes nothing.
 use borrow.Author.Needs.{needs}
 use mathlib.Core.Path.{_≡_, refl, _∙_}
-use mathlib.Core.Logic.{inl}
 use Prim.Native.Nat.{ℕ}
 use native.Mathlib.Omega.{arith}
 use mathlib.Core.List.{List}
@@ -84,7 +83,7 @@ returns-2 c =
       found-all (allowed e) r (tested e .prepare .ensures .1),
       (
         found-bounded (allowed e) r,
-        listed (allowed e) (omega (arith, r .moved refl (inl refl))) (r .kept refl (inl refl)),
+        listed (allowed e) (omega (arith, r .moved refl)) (r .kept refl),
       ),
     )
 

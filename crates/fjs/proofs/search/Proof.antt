@@ -1,12 +1,12 @@
--- `fjs::search` meets its contract. The loop's invariant is the run's progress (`matching`), with its moves so far and the total below the limit; the inner loop reaches as far from letter k + 1 on as
--- from the first letter that is not carried. The loop is left by its test, where no letter follows the window, or at the occurrence that was wanted. Assumes nothing.
+-- `fjs::search` meets its contract. The loop's invariant is the run's progress (`matching`), with its moves so far; the inner loop reaches as far from letter k + 1 on as from the first letter that is
+-- not carried. The loop is left by its test, or where no letter follows the window. Assumes nothing.
 use mathlib.Core.Path.{_≡_, refl, sym, ap, _∙_}
 use mathlib.Core.Logic.{inl, inr, ⊎-elim}
 use Prim.Native.Nat.{ℕ, _+_, _-_, _≤_, _<_}
 use native.Mathlib.Omega.{arith}
 use mathlib.Core.Bool.{Bool}
 use mathlib.Core.List.{List}
-use lib.ListN.{length, getD, length-set}
+use lib.ListN.{length, getD}
 use Rattle.matching.specs.Letters.{reach}
 use Rattle.matching.specs.Machine.{at}
 use Rattle.matching.proofs.Letters.{Upward, up-none, up-next}
@@ -24,29 +24,28 @@ use Rattle.fjs_steps.specs.Fjs.{fjs}
 use Rattle.fjs_steps.proofs.Sound.{sound}
 use Rattle.fjs_steps.proofs.Scratch.{sundays, kmps, limits}
 use Rattle.fjs.proofs.Tracked.{Tracked, tracked-none, tracked-more}
-use Rattle.fjs.proofs.Steps.{end-differs, end-noted, end-stops, Begun, begun-le, begun-noted, stops, miss, ends, hit, hit-more, hit-place, Under, under-start, under-more, searched-all, searched-one}
+use Rattle.fjs.proofs.Steps.{end-differs, end-noted, end-stops, Begun, begun-le, begun-noted, stops, miss, ends, hit, searched-all}
 use Rattle.fjs.proofs.search.Statement.{statement}
 use Rattle.fjs.proofs.search.Tie as tie
 
 abbrev Inv-loop2 : tie.InvT-loop2
-Inv-loop2 pattern text scratch list limit moves noting m n end total compared last moved s q until k₀ k = Upward pattern text s q until k
+Inv-loop2 pattern text scratch list moves noting m n end total compared moved s q until k₀ k = Upward pattern text s q until k
 
 abbrev μ-loop2 : tie.MeasureT-loop2
-μ-loop2 pattern text scratch list limit moves noting m n end total compared last moved s q until k₀ k = until - k
+μ-loop2 pattern text scratch list moves noting m n end total compared moved s q until k₀ k = until - k
 
--- what is known where the loop is tested: the run's progress, the moves so far, a start that is not far past the text's end, and the limit not reached
-record Going (P T list₀ noted₀ : List ℕ) (limit : ℕ) (noting : Bool) (total compared count s q : ℕ) (list noted : List ℕ) : Type 0 where
+-- what is known where the loop is tested: the run's progress, the moves so far, and a start that is not far past the text's end
+record Going (P T list₀ noted₀ : List ℕ) (noting : Bool) (total compared count s q : ℕ) (list noted : List ℕ) : Type 0 where
   progress : Progress fjs P T list₀ (at s q) total compared list
   moves : Tracked P T noted₀ noting s q count noted
   near : s ≤ length T + 1
-  under : Under limit total
 
 abbrev Inv-loop : tie.InvT-loop
-Inv-loop pattern text scratch list₀ limit moves₀ noting m n end total₀ compared₀ last₀ moved₀ s₀ q₀ list moves total compared last moved s q =
-    Going pattern text list₀ moves₀ limit noting total compared moved s q list moves
+Inv-loop pattern text scratch list₀ moves₀ noting m n end total₀ compared₀ moved₀ s₀ q₀ list moves total compared moved s q =
+    Going pattern text list₀ moves₀ noting total compared moved s q list moves
 
 abbrev μ-loop : tie.MeasureT-loop
-μ-loop pattern text scratch list₀ limit moves₀ noting m n end total₀ compared₀ last₀ moved₀ s₀ q₀ list moves total compared last moved s q = length text + 1 - s
+μ-loop pattern text scratch list₀ moves₀ noting m n end total₀ compared₀ moved₀ s₀ q₀ list moves total compared moved s q = length text + 1 - s
 
 -- the call, from the loop; its pattern and its text
 abbrev start : tie.At-loop Inv-loop2 μ-loop2 Inv-loop μ-loop → tie.Start Inv-loop2 μ-loop2 Inv-loop μ-loop
@@ -96,18 +95,16 @@ differs : (d : tie.Left-loop2 Inv-loop2 μ-loop2 Inv-loop μ-loop) → let i = d
 differs d h = ⊎-elim (λ w. absurd (omega (arith, w .left))) (λ w. w .3 .taken) (d .loop2-test .came)
 
 -- one window done, whether it reports or not
-record Stepped (P T list₀ : List ℕ) (s q k limit total compared : ℕ) (list : List ℕ) : Type 0 where
+record Stepped (P T list₀ : List ℕ) (s q k total compared : ℕ) (list : List ℕ) : Type 0 where
   progress : Progress fjs P T list₀ (kmpMove P s k) total compared list
   reached : reach P T s q ≡ k
   few : k ≤ length P
-  under : Under limit total
 
 stepped : (j : tie.Joined5 Inv-loop2 μ-loop2 Inv-loop μ-loop)
-    → let l = outer (j .before .before .before) in let a = start l .args in Stepped (P l) (T l) (a .list .now) (l .loop .s) (l .loop .q) (j .if5 .k) (a .limit) (j .if5 .total) (j .if5 .compared) (j .if5 .list)
+    → let l = outer (j .before .before .before) in let a = start l .args in Stepped (P l) (T l) (a .list .now) (l .loop .s) (l .loop .q) (j .if5 .k) (j .if5 .total) (j .if5 .compared) (j .if5 .list)
 stepped j =
     let i = j .before .before .before in
     let p = outer i .loop .inv .progress in
-    let u = outer i .loop .inv .under in
     let h = within (i .before .before) in
     let g = begun (i .before) in
     let le = until-le (i .before) in
@@ -115,17 +112,15 @@ stepped j =
     (λ w.
     let part = w .0 .taken in
     record {
-      progress = rw (w .1, w .2, w .3, w .5) (miss p h g (i .loop2 .inv) part (differs (j .before .before) part) refl);
-      reached = rw (w .5) (stops p h g (i .loop2 .inv) part (differs (j .before .before) part));
-      few = omega (arith, w .5, le .0);
-      under = rw (w .2) u;
+      progress = rw (w .1, w .2, w .3, w .4) (miss p h g (i .loop2 .inv) part (differs (j .before .before) part) refl);
+      reached = rw (w .4) (stops p h g (i .loop2 .inv) part (differs (j .before .before) part));
+      few = omega (arith, w .4, le .0);
     })
     (λ w.
     record {
-      progress = rw (w .6, w .7, w .8, w .10, w .2 .ensures) (hit p h g (i .loop2 .inv) (omega (arith, w .0 .left)) refl);
-      reached = rw (w .10) (ends p h g (i .loop2 .inv) (omega (arith, w .0 .left)));
-      few = omega (arith, w .10);
-      under = rw (w .7) (under-more u (w .5 .left));
+      progress = rw (w .5, w .6, w .7, w .8, w .2 .ensures) (hit p h g (i .loop2 .inv) (omega (arith, w .0 .left)) refl);
+      reached = rw (w .8) (ends p h g (i .loop2 .inv) (omega (arith, w .0 .left)));
+      few = omega (arith, w .8);
     })
     (j .if5 .came)
 
@@ -160,7 +155,6 @@ loop-holds c =
       progress = begins (limits (st .pre)) (sound (a .pattern .now) (a .text .now));
       moves = tracked-none (a .pattern .now) (a .text .now) (a .moves .now) (a .noting);
       near = omega arith;
-      under = under-start (a .limit);
     }
 
 add-loop : tie.Need-add-loop Inv-loop2 μ-loop2 Inv-loop μ-loop
@@ -227,7 +221,6 @@ loop-again c =
       progress = rw zero (sunday-goes (l .loop .s) (end-differs (v .progress) inside zero differs) on j);
       moves = rw zero (tracked-more (start l .args .noting) 1 (v .moves) (omega (arith, j .least)) (end-noted (v .progress) inside zero differs (sunday-next (P l) (T l) (l .loop .s) on j)) (noted .0) (noted .1));
       near = omega (arith, j .most, on);
-      under = v .under;
     }
 
 loop2-holds : tie.Need-loop2-holds Inv-loop2 μ-loop2 Inv-loop μ-loop
@@ -303,7 +296,7 @@ sub-q c = omega arith
 -- the loop goes on after KMP's move, with so many letters carried
 kmp-again : (c : tie.After-slice-known5 Inv-loop2 μ-loop2 Inv-loop μ-loop) {q : ℕ} → let j = read-kmp c .before .before in let l = outer (inner j) in let a = start l .args in
     let b = getD (a .scratch .now) (256 + j .if5 .k) 0 in let note = c .before .before .note2 in
-    q ≡ b - 1 → Going (P l) (T l) (a .list .now) (a .moves .now) (a .limit) (a .noting) (j .if5 .total) (j .if5 .compared) (note .result) (l .loop .s + (j .if5 .k + 1 - b)) q (j .if5 .list) (note .last .1 .0)
+    q ≡ b - 1 → Going (P l) (T l) (a .list .now) (a .moves .now) (a .noting) (j .if5 .total) (j .if5 .compared) (note .result) (l .loop .s + (j .if5 .k + 1 - b)) q (j .if5 .list) (note .last .1 .0)
 kmp-again c e =
     let j = read-kmp c .before .before in
     let i = inner j in
@@ -318,7 +311,6 @@ kmp-again c e =
       progress = kmp-goes (l .loop .s) (j .if5 .k) (d .progress) r e;
       moves = tracked-more (start l .args .noting) 2 (v .moves) (omega (arith, r .most)) (begun-noted (v .progress) (within (i .before .before)) (begun (i .before)) (d .reached) on) (noted .0) (noted .1);
       near = omega (arith, d .few, within (i .before .before));
-      under = d .under;
     }
 
 loop-less-2 : tie.Need-loop-less-2 Inv-loop2 μ-loop2 Inv-loop μ-loop
@@ -331,7 +323,7 @@ loop-less-3 : tie.Need-loop-less-3 Inv-loop2 μ-loop2 Inv-loop μ-loop
 loop-less-3 c = omega (arith, moved (read-kmp (c .before)) .most)
 
 loop-again-3 : tie.Need-loop-again-3 Inv-loop2 μ-loop2 Inv-loop μ-loop
-loop-again-3 c = kmp-again (c .before) (omega (arith, c .if7 .left))
+loop-again-3 c = kmp-again (c .before) (omega (arith, c .if6 .left))
 
 same-length : tie.Need-same-length Inv-loop2 μ-loop2 Inv-loop μ-loop
 same-length c = same-list (c .before .loop .inv .progress)
@@ -344,7 +336,7 @@ returns c =
     let l = c .before in
     let v = l .loop .inv in
     let off : length (T l) < l .loop .s + length (P l) = omega (arith, c .loop-test .left) in
-    searched-all (past (v .progress) off) (v .moves .long) (v .moves .made) (run-off (v .progress .sound) (l .loop .s) (l .loop .q) off) (omega (arith, v .moves .few, v .near)) (v .under)
+    searched-all (past (v .progress) off) (v .moves .long) (v .moves .made) (run-off (v .progress .sound) (l .loop .s) (l .loop .q) off) (omega (arith, v .moves .few, v .near))
 
 same-length-3 : tie.Need-same-length-3 Inv-loop2 μ-loop2 Inv-loop μ-loop
 same-length-3 c = same-list (c .before .before .before .before .before .before .loop .inv .progress)
@@ -361,25 +353,7 @@ returns-2 c =
     let differs = c .before .if2 .taken in
     searched-all (sunday-over (l .loop .s) (end-differs (v .progress) inside zero differs) (c .if3 .taken))
     (v .moves .long) (λ on. end-stops (v .progress) inside zero differs (sunday-stop (P l) (T l) (l .loop .s) (c .if3 .taken)) (v .moves .made on))
-    (run-stop (v .progress .sound)) (omega (arith, v .moves .few, v .near)) (v .under)
-
-same-length-5 : tie.Need-same-length-5 Inv-loop2 μ-loop2 Inv-loop μ-loop
-same-length-5 c =
-    let v = c .before .before .before in
-    ap length (v .store .ensures) ∙ simp length-set (same-list (outer (v .before .before .before .before .before) .loop .inv .progress))
-
-same-length-6 : tie.Need-same-length-6 Inv-loop2 μ-loop2 Inv-loop μ-loop
-same-length-6 c = let v = c .before .before .before in outer (v .before .before .before .before .before) .loop .inv .moves .long
-
-returns-3 : tie.Need-returns-3 Inv-loop2 μ-loop2 Inv-loop μ-loop
-returns-3 c =
-    let v = c .before .before .before in
-    let i = v .before .before .before .before .before in
-    let w = outer i .loop .inv in
-    let h = within (i .before .before) in
-    let g = begun (i .before) in
-    let all = v .before .before .if5 .left in
-    searched-one (same-length-5 c, same-length-6 c) (omega (arith, w .moves .few, w .near)) (c .if6 .taken) (hit-more (w .progress) h g (i .loop2 .inv) all) (hit-place (w .progress) h g (i .loop2 .inv) all)
+    (run-stop (v .progress .sound)) (omega (arith, v .moves .few, v .near))
 
 pub search-spec : {M : Type 1} → statement M
 search-spec =
@@ -438,7 +412,4 @@ search-spec =
     returns
     same-length-3
     same-length-4
-    returns-2
-    same-length-5
-    same-length-6
-    returns-3)
+    returns-2)
