@@ -1,5 +1,5 @@
 -- What the numbers at the letters of a text make of the ordinals and places of a group's phrases (document 02, (vi)): at each letter in order, the phrases that end there are taken from the lowest bit up,
--- each one's ordinal is counted down, and where it ends the place is kept. That this is the occurrence of that ordinal is shown in proofs/Counts.antt (`left-is`, `place-is`).
+-- each one's ordinal is counted down, and where it ends the place is kept. That this is the occurrence of that ordinal is shown in proofs/Counts.antt (`counts-are`).
 use Prim.Native.Nat.{ℕ, zero, suc, _-_}
 use mathlib.Core.Bool.{cond}
 use mathlib.Core.List.{List, [], _∷_}

@@ -1,4 +1,4 @@
--- The states of the group's automaton (document 02, (vi)): the state is the longest end of what was read that is a prefix of a phrase. That a state and one letter alone give the next state and the
+-- The states of the group's automaton (document 02, (vi)): the state is the longest end of what was read that is a prefix of a phrase (`state-ends`, `state-longest`). That a state and one letter alone give the next state and the
 -- number of the phrases that end there, whatever was read before, is shown in proofs/States.antt (`state-on`, `ended-state`) and proofs/Endings.antt (`steps-endings`).
 use Prim.Native.Nat.{ℕ}
 use mathlib.Core.Bool.{Bool, false, cond, _||_}

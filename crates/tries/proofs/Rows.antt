@@ -4,7 +4,6 @@ use Prim.Native.Nat.{ℕ, _+_, _-_, _*_, _≤_, _<_}
 use native.Mathlib.Omega.{arith}
 use native.Mathlib.Nat.{mul-suc, mul-le-mul-left}
 use mathlib.Core.List.{List, [], _∷_, _++_}
-use lib.ListN.{length}
 use Rattle.phrases.specs.States.{next, state}
 use Rattle.tries.specs.Tables.{failAt, name, LookedUp, Linked}
 use Rattle.tries.specs.Rows.{classAt, rowAt, Rows, Leads}
@@ -27,9 +26,6 @@ pub record Falling (ps names : List (List ℕ)) (done s c at : ℕ) : Type 0 whe
 module _ {ps names : List (List ℕ)} {done : ℕ} {t : List ℕ} {s c : ℕ} (l : Linked ps names done t) where
   pub fall-start : s < done → Falling ps names done s c s
   fall-start h = record { inside = h; same = refl }
-
-  pub fall-fits : {at : ℕ} → Falling ps names done s c at → 8 * at + 8 ≤ length t
-  fall-fits f = omega (arith, f .inside, l .most, l .trie .room)
 
   pub fall-less : {at : ℕ} → Falling ps names done s c at → 1 ≤ at → failAt t at < at
   fall-less {at} f h = l .falls at h (f .inside)

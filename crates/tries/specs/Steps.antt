@@ -26,6 +26,7 @@ stateFrom (suc links) t w count c s =
     let below = stateFrom links t w count c (failAt t s) in
     cond (ltb s count) (rowAt t w s (classAt t c)) (cond (eqb (childOf t s c) 0) below (childOf t s c))
 
+-- the state after letter c from state s, with as many links as can be needed
 abbrev pub stateAfter : List ℕ → ℕ → ℕ → ℕ → ℕ → ℕ
 stateAfter t w count s c = stateFrom s t w count c s
 

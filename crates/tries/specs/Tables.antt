@@ -36,6 +36,7 @@ pub record Latest (property : ℕ → Type 0) (top x : ℕ) : Type 0 where
   pub here : 1 ≤ x → property x
   pub none : (y : ℕ) → x < y → y < top → property y → ⊥
 
+-- state x is a child of a state before it
 pub record Parent (names : List (List ℕ)) (t : List ℕ) (x : ℕ) : Type 0 where
   pub parent : ℕ
   pub before : parent < x
