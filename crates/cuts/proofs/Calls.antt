@@ -2,15 +2,15 @@
 use mathlib.Core.Path.{_≡_, refl, sym, _∙_}
 use Prim.Native.Nat.{ℕ, _+_, _-_, _≤_, _<_}
 use native.Mathlib.Omega.{arith}
-use mathlib.Core.Bool.{Bool, true, false, not, _&&_, _||_, true≢false}
+use mathlib.Core.Bool.{true, false, not, _&&_}
 use mathlib.Core.List.{List, _++_}
 use lib.ListN.{length, take, drop, length-append, length-drop}
 use lib.Seq.{length-take-le}
 use lib.Dec.{eqb, ltb}
-use borrow.Author.Tests.{lt-ltb, le-ltb, ltb-false, eqb-true, eqb-false}
+use borrow.Author.Tests.{lt-ltb, le-ltb, ltb-false, eqb-true, eqb-false, not-false}
 use Rattle.matching.specs.Refusals.{firstMet}
 use Rattle.matching.specs.Find.{findTests, refusal}
-use Rattle.matching.proofs.CaseAnalysis.{by-test, both}
+use Rattle.matching.proofs.CaseAnalysis.{by-test, both, neither}
 use Rattle.matching.proofs.Refusals.{Passed, met-before, met-after, numbersTo, all-passed}
 use Rattle.matching.proofs.Find.{within}
 use Rattle.cuts.specs.Cuts.{Cut, newText, rises, allFit, cutTests, relistRefusal}
@@ -20,15 +20,6 @@ pub length-new : (T : List ℕ) (c : Cut) → c .start ≤ length T → length (
 length-new T c h =
     length-append (take (c .start) T ++ c .letters) (drop (c .end) T)
     ∙ omega (arith, length-append (take (c .start) T) (c .letters), length-take-le (c .start) T h, length-drop (c .end) T)
-
--- both parts of a disjunction that does not pass, and a test that is not "not"
-neither : (a b : Bool) → a || b ≡ false → (a ≡ false) × (b ≡ false)
-neither true b e = absurd (true≢false e)
-neither false b e = (refl, e)
-
-not-not : (a : Bool) → not a ≡ false → a ≡ true
-not-not true e = refl
-not-not false e = absurd (true≢false e)
 
 -- what is known of a call that is not refused
 pub record Taken (P T list : List ℕ) (c : Cut) : Type 0 where
@@ -95,7 +86,7 @@ module _ (P T list : List ℕ) (c : Cut) where
       let w = within (length P) (length T) 0 0 none in
       let p = all-passed 18 (cutTests P T list c) refl (sym (cut-decides none) ∙ e) in
       let stretch = neither (ltb (c .end) (c .start)) (ltb (length T) (c .end)) (p .0) in
-      let good = both (rises list) (allFit (length P) (length T) list) (not-not (rises list && allFit (length P) (length T) list) (p .1 .0)) in
+      let good = both (rises list) (allFit (length P) (length T) list) (not-false (rises list && allFit (length P) (length T) list) (p .1 .0)) in
       record {
         some = w .some;
         short = w .short;

@@ -2,7 +2,7 @@
 use mathlib.Core.Path.{_≡_, refl, sym, ap}
 use Prim.Native.Nat.{ℕ, suc, _≤_}
 use native.Mathlib.Omega.{arith}
-use mathlib.Core.Bool.{Bool, true, false, cond, _&&_, _||_, false≢true}
+use mathlib.Core.Bool.{Bool, true, false, cond, _&&_, _||_, true≢false, false≢true}
 use mathlib.Core.List.{List}
 use lib.ListN.{getD}
 
@@ -20,6 +20,11 @@ both false b e = absurd (false≢true e)
 pub either : (a b : Bool) → a || b ≡ true → a ≡ false → b ≡ true
 either true b e f = absurd (false≢true (sym f))
 either false b e f = e
+
+-- neither part of a disjunction that does not pass does
+pub neither : (a b : Bool) → a || b ≡ false → (a ≡ false) × (b ≡ false)
+neither true b e = absurd (true≢false e)
+neither false b e = (refl, e)
 
 -- a choice between two numbers is no larger than both
 pub cond-most : (t : Bool) {x y n : ℕ} → x ≤ n → y ≤ n → cond t x y ≤ n
