@@ -1,5 +1,5 @@
 -- The starred cases of document 01, "Refrains to try", the cases that document 02, (ii), (iv) and (x), names, the moves of an example run, late cuts, phrases looked for
--- together, and groups of cues at their limits: one table, and what it means for a row to hold.
+-- together, groups of cues at their limits, and cues that do not run forward: one table, and what it means for a row to hold.
 use Prim.Native.Nat.{ℕ, zero, suc, _-_}
 use mathlib.Core.Bool.{Bool, true, false, cond, _&&_}
 use mathlib.Core.List.{List, [], _∷_, _++_, map}
@@ -102,10 +102,15 @@ unfoldable pub comesTo : Resolution → ℕ → ℕ → ℕ → List ℕ → Boo
 unfolding same
 comesTo o refusal number reads entries = eqb (o .refusal) refusal && eqb (o .number) number && eqb (o .reads) reads && same (o .written) entries
 
--- some numbers, so many times
-unfoldable pub times : ℕ → List ℕ → List ℕ
-times zero l = []
-times (suc k) l = l ++ times k l
+-- the first occurrences of a, so many of them, from one on
+unfoldable pub asFrom : ℕ → ℕ → List Cue
+asFrom ordinal zero = []
+asFrom ordinal (suc k) = cueWith (97 ∷ []) ordinal [] ∷ asFrom (suc ordinal) k
+
+-- the entries of places one after another in the first line, so many of them, from one on
+unfoldable pub inARow : ℕ → ℕ → List ℕ
+inARow place zero = []
+inARow place (suc k) = place ∷ 1 ∷ suc place ∷ inARow (suc place) k
 
 -- cues with phrases of these lengths, so many of each
 unfoldable pub cuesOfLengths : List (ℕ × ℕ) → List Cue
@@ -205,7 +210,7 @@ ushers = 117 ∷ 115 ∷ 104 ∷ 101 ∷ 114 ∷ 115 ∷ []
 
 -- the table
 unfoldable pub cases : List Case
-unfolding times
+unfolding asFrom inARow
 cases =
     kmpEntries abaaca (0 ∷ 1 ∷ 0 ∷ 2 ∷ 2 ∷ 0 ∷ 2 ∷ []) (1 ∷ 1 ∷ 3 ∷ 2 ∷ 3 ∷ 6 ∷ 5 ∷ [])
     ∷ sundayEntries abaaca abc (1 ∷ 5 ∷ 2 ∷ []) 7
@@ -282,7 +287,14 @@ cases =
     ∷ grouping ((4, 1024) ∷ (1, 1) ∷ []) (4 ∷ 1 ∷ [])
     ∷ grouping ((3, 1024) ∷ (1, 1023) ∷ (2, 1) ∷ []) (5 ∷ 1 ∷ [])
     ∷ grouping ((64, 64) ∷ (1, 1) ∷ []) (64 ∷ 1 ∷ [])
-    ∷ judged (ab ++ wordA) (cueWith wordA 2 [] ∷ cueWith ab 1 [] ∷ []) 0 2 3 (2 ∷ 1 ∷ 3 ∷ 0 ∷ 1 ∷ 1 ∷ [])
-    ∷ judged aba (cueWith wordA 1 [] ∷ cueWith wordB 2 [] ∷ replicate 63 (cueWith wordA 1 [])) 12 1 3 (0 ∷ 1 ∷ 1 ∷ [])
-    ∷ judged aa (replicate 64 (cueWith wordA 1 []) ++ cueWith wordA 3 [] ∷ []) 12 64 4 (times 64 (0 ∷ 1 ∷ 1 ∷ []))
+    ∷ judged aba (cueWith ab 1 [] ∷ cueWith wordB 1 [] ∷ cueWith wordA 2 [] ∷ []) 0 3 3 (0 ∷ 1 ∷ 1 ∷ 1 ∷ 1 ∷ 2 ∷ 2 ∷ 1 ∷ 3 ∷ [])
+    ∷ judged aba (cueWith wordA 1 [] ∷ cueWith wordB 2 [] ∷ asFrom 1 63) 12 1 3 (0 ∷ 1 ∷ 1 ∷ [])
+    ∷ judged (replicate 65 97) (asFrom 1 64 ++ cueWith wordA 66 [] ∷ []) 12 64 130 (inARow 0 64)
+    ∷ judged (replicate 65 97) (asFrom 1 65) 0 65 130 (inARow 0 65)
+    ∷ judged (replicate 65 97) (asFrom 1 64 ++ cueWith wordA 64 [] ∷ []) 15 64 130 (inARow 0 64)
+    ∷ judged aba (cueWith wordA 2 [] ∷ cueWith ab 1 [] ∷ []) 15 1 3 (2 ∷ 1 ∷ 3 ∷ [])
+    ∷ judged aba (cueWith wordA 1 [] ∷ cueWith ab 1 [] ∷ []) 15 1 3 (0 ∷ 1 ∷ 1 ∷ [])
+    ∷ judged aba (cueWith wordA 1 [] ∷ cueWith wordA 2 [] ∷ cueWith wordB 1 [] ∷ []) 15 2 3 (0 ∷ 1 ∷ 1 ∷ 2 ∷ 1 ∷ 3 ∷ [])
+    ∷ judged aba (cueWith wordA 2 [] ∷ cueWith wordB 2 [] ∷ cueWith wordB 1 [] ∷ []) 12 1 3 (2 ∷ 1 ∷ 3 ∷ [])
+    ∷ judged aba (cueWith wordA 2 [] ∷ cueWith wordB 1 [] ∷ cueWith wordB 2 [] ∷ []) 15 1 3 (2 ∷ 1 ∷ 3 ∷ [])
     ∷ []

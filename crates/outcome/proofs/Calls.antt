@@ -1,8 +1,7 @@
--- A call by its cases: what its tests leave, the outcome by what the book reads as, and what a call that gives 0 or 12 has passed. For any fold. Assumes nothing.
-use mathlib.Core.Path.{_≡_, refl, sym, ap, _∙_}
+-- A call by its cases: what its tests leave, the outcome by what the book reads as, and what a call that gives 0, 12 or 15 has passed. For any fold. Assumes nothing.
+use mathlib.Core.Path.{_≡_, refl, sym, ap, subst, _∙_}
 use Prim.Native.Nat.{ℕ, _*_, _≤_, _<_}
 use native.Mathlib.Omega.{arith}
-use mathlib.Core.Logic.{_⊎_, ⊎-elim}
 use mathlib.Core.Bool.{Bool, true, false, cond}
 use mathlib.Core.List.{List}
 use lib.ListN.{length}
@@ -16,6 +15,7 @@ use Rattle.cues.specs.Cue.{Cue}
 use Rattle.cue_book.specs.Reading.{refused, cues, readBook, refusalOf, numberOf, cuesIn}
 use Rattle.cue_book.proofs.Books.{refused-book, book-most, accepted-book}
 use Rattle.outcome.specs.Outcome.{chosen, callTests, callRefusalOf, Call, callRefusal, resolution, Outcome, refusing, withCues, withBook, outcome}
+use Rattle.outcome.specs.Told.{Another}
 use Rattle.outcome.proofs.Judging.{length-numbered}
 
 -- ---- the tests before the book is read
@@ -48,10 +48,12 @@ enough {c} e =
       whole = ltb-false (c .copy) (length (c .text)) (p .1 .1 .1 .0);
     }
 
--- none of them refuses with 12
-call-not-12 : (c : Call) → callRefusal c ≡ 12 → ⊥
+-- none of them refuses with 12 or 15
+call-another : (c : Call) → (callRefusal c ≡ 0 → ⊥) → Another (callRefusal c)
 unfolding callRefusalOf without
-call-not-12 c = met-not 12 (callTests (c .page) (length (c .text)) (c .copy) (c .scratch)) refl (λ z. omega arith)
+call-another c some =
+    let tests = callTests (c .page) (length (c .text)) (c .copy) (c .scratch) in
+    record { not-0 = some; not-12 = met-not 12 tests refl (λ z. omega arith); not-15 = met-not 15 tests refl (λ z. omega arith) }
 
 module _ (f : ℕ → ℕ) (c : Call) where
   -- ---- the outcome by its cases
@@ -87,7 +89,7 @@ module _ (f : ℕ → ℕ) (c : Call) where
       pub outcome-works : 3 * length cs ≤ c .entries → outcome f c (readBook book) ≡ record { works = true; resolution = resolution f (c .text) (chosen cs) }
       outcome-works h = outcome-fine ∙ ap (withBook f c) read ∙ with-enough cs h
 
-  -- ---- a call that gives 0 or 12
+  -- ---- a call that gives 0, 12 or 15
 
   -- every test before 12 was passed, the book reads as its cues, and the outcome is theirs
   pub record Reached (book : List ℕ) : Type 0 where
@@ -98,27 +100,28 @@ module _ (f : ℕ → ℕ) (c : Call) where
   abbrev given : List ℕ → ℕ
   given book = outcome f c (readBook book) .resolution .refusal
 
-  -- no refusal before 12 is 0 or 12
-  idle : {A : Type 0} (book : List ℕ) {number index : ℕ} → (given book ≡ 0) ⊎ (given book ≡ 12) → outcome f c (readBook book) ≡ refusing number index → (number ≡ 0 → ⊥) → (number ≡ 12 → ⊥) → A
-  idle {A} book {number} j e some other =
-      let is : given book ≡ number = ap (λ (o : Outcome). o .resolution .refusal) e in
-      ⊎-elim {C = A} (λ (z : given book ≡ 0). absurd (some (sym is ∙ z))) (λ (z : given book ≡ 12). absurd (other (sym is ∙ z))) j
-
-  pub reached : (book : List ℕ) → (given book ≡ 0) ⊎ (given book ≡ 12) → Reached book
-  reached book j =
+  pub reached : (book : List ℕ) → (Another (given book) → ⊥) → Reached book
+  reached book one =
       by-test (λ _. Reached book) (eqb (callRefusal c) 0)
       (λ t. with-memory (eqb-true (callRefusal c) 0 t))
-      (λ t. let some = eqb-false (callRefusal c) 0 t in idle book j (outcome-refused book refl some) some (call-not-12 c))
+      (λ t. let some = eqb-false (callRefusal c) 0 t in other (outcome-refused book refl some) (call-another c some))
     where
+      -- no refusal before 12 is one of them
+      other : {number index : ℕ} → outcome f c (readBook book) ≡ refusing number index → Another number → Reached book
+      other e a = absurd (one (subst Another (sym (ap (λ (o : Outcome). o .resolution .refusal) e)) a))
+
       with-cues : callRefusal c ≡ 0 → readBook book ≡ cues (cuesIn (readBook book)) → Reached book
       with-cues fine read =
           let cs = cuesIn (readBook book) in
           by-test (λ _. Reached book) (ltb (c .entries) (3 * length cs))
-          (λ t. idle book j (outcome-few book fine read (ltb-true (c .entries) (3 * length cs) t)) (λ z. omega arith) (λ z. omega arith))
+          (λ t. other (outcome-few book fine read (ltb-true (c .entries) (3 * length cs) t)) (record { not-0 = λ z. omega arith; not-12 = λ z. omega arith; not-15 = λ z. omega arith }))
           (λ t. let h = ltb-false (c .entries) (3 * length cs) t in record { read = read; three = h; is = outcome-works book fine read h })
 
       with-memory : callRefusal c ≡ 0 → Reached book
       with-memory fine =
-          by-test (λ _. Reached book) (eqb (refusalOf (readBook book)) 0)
-          (λ t. with-cues fine (accepted-book book (eqb-true (refusalOf (readBook book)) 0 t) .0))
-          (λ t. let some = eqb-false (refusalOf (readBook book)) 0 t in idle book j (outcome-book book fine some) some (λ z. omega (arith, book-most book)))
+          let number : ℕ = refusalOf (readBook book) in
+          by-test (λ _. Reached book) (eqb number 0)
+          (λ t. with-cues fine (accepted-book book (eqb-true number 0 t) .0))
+          (λ t.
+          let some = eqb-false number 0 t in
+          other (outcome-book book fine some) (record { not-0 = some; not-12 = λ z. omega (arith, book-most book); not-15 = λ z. omega (arith, book-most book) }))

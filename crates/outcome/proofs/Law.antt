@@ -1,9 +1,9 @@
--- The resolver's law, for any fold that changes nothing the second time (document 02, (iv)): a call that gives 0 has every cue at the occurrence that it names, one that gives 12 every cue
--- before the named one, whose occurrence does not exist, each with its reads; any other refusal leaves all as before; and a text folded beforehand gives the same places. Assumes nothing.
-use mathlib.Core.Path.{_≡_, refl, sym, ap, _∙_}
+-- The resolver's law, for any fold that changes nothing the second time (document 02, (iv)): a call that gives 0 has every cue at the occurrence that it names, and the places rise; one that gives 12 or
+-- 15 has every cue before the named one, whose occurrence does not exist, or stands where that of the cue before it does or before that; each with its reads; any other refusal leaves all as before; and
+-- a text folded beforehand gives the same places. Assumes nothing.
+use mathlib.Core.Path.{_≡_, refl, sym, ap, subst, _∙_}
 use Prim.Native.Nat.{ℕ, _*_, _≤_}
 use native.Mathlib.Omega.{arith}
-use mathlib.Core.Logic.{inl, inr}
 use mathlib.Core.Bool.{true, cond}
 use mathlib.Core.List.{List, [], _∷_, _++_, map}
 use lib.ListN.{length, length-append, length-map}
@@ -12,10 +12,10 @@ use Rattle.matching.specs.Received.{received}
 use Rattle.matching.proofs.CaseAnalysis.{by-test}
 use Rattle.cues.specs.Cue.{Cue}
 use Rattle.cue_book.specs.Reading.{Reading, refused, cues, readBook, cuesIn}
-use Rattle.outcome.specs.Outcome.{Numbered, chosen, cuesOf, placeOf, Judged, judge, entriesOf, readsOf, Resolution, resolution, Call, callRefusalOf, callRefusal, Outcome, refusing, withCues, withBook, outcome}
-use Rattle.outcome.specs.Told.{Idempotent, KeepsLines, placesOf, AllOut, OneMissing, Idle, beforehand, SamePlaces, Law}
-use Rattle.outcome.proofs.Judging.{numbered-cues, length-numbered, numbered-at, fault-missing, missing, all-found, one-faulted}
-use Rattle.outcome.proofs.Placing.{entries-count, entries-place, came-out, reads-folded, judge-folded, folded-before}
+use Rattle.outcome.specs.Outcome.{Numbered, chosen, cuesOf, placeOf, placeBefore, cueFault, Judged, judge, entriesOf, readsOf, Resolution, resolution, Call, callRefusalOf, callRefusal, Outcome, refusing, withCues, withBook, outcome}
+use Rattle.outcome.specs.Told.{Idempotent, KeepsLines, Rises, placesOf, AllOut, OneFaulty, Missing, Falling, Another, Idle, beforehand, SamePlaces, Law}
+use Rattle.outcome.proofs.Judging.{numbered-cues, length-numbered, numbered-at, last-more, rises-none, names-missing, names-falling, two-faults, all-found, one-faulted}
+use Rattle.outcome.proofs.Placing.{entries-count, entries-place, places-split, came-out, reads-folded, judge-folded, folded-before}
 use Rattle.outcome.proofs.Grouping.{book-grouped, group-of, reads-all, reads-up-to}
 use Rattle.outcome.proofs.Calls.{Reached, reached}
 
@@ -24,6 +24,25 @@ use Rattle.outcome.proofs.Calls.{Reached, reached}
 cues-split : (before : List Numbered) (x : Numbered) (later : List Numbered) → cuesOf (before ++ x ∷ later) ≡ cuesOf before ++ x .cue ∷ cuesOf later
 cues-split [] x later = refl
 cues-split (b ∷ before) x later = ap (λ (l : List Cue). b .cue ∷ l) (cues-split before x later)
+
+-- the last cue before a fault of 15, and its place
+record Ends (cs : List Cue) : Type 0 where
+  front : List Cue
+  previous : Cue
+  is : cs ≡ front ++ previous ∷ []
+
+ends : (cs : List Cue) → 1 ≤ length cs → Ends cs
+ends [] h = absurd (omega arith)
+ends (d ∷ []) h = record { front = []; previous = d; is = refl }
+ends (d ∷ e ∷ cs) h = let r = ends (e ∷ cs) (omega arith) in record { front = d ∷ r .front; previous = r .previous; is = ap (λ (l : List Cue). d ∷ l) (r .is) }
+
+falling : (f : ℕ → ℕ) (text : List ℕ) (earlier : List Cue) (d : Cue) → cueFault f text (placesOf f text earlier) d ≡ 15 → Falling f text earlier d
+falling f text earlier d e =
+    let n = names-falling f text (placesOf f text earlier) d e in
+    let last = ends earlier (omega (arith, n .1 .0, length-map earlier (placeOf f text))) in
+    let place : placeBefore (placesOf f text earlier) ≡ placeOf f text (last .previous) =
+    ap (λ (l : List Cue). placeBefore (placesOf f text l)) (last .is) ∙ ap placeBefore (places-split f text (last .front) (last .previous) []) ∙ last-more (placesOf f text (last .front)) (placeOf f text (last .previous)) in
+    record { there = n .0; front = last .front; previous = last .previous; last = last .is; low = omega (arith, n .1 .1) }
 
 module _ (f : ℕ → ℕ) (c : Call) (book entries : List ℕ) (lent : length entries ≡ c .entries) where
   abbrev given : Resolution
@@ -49,44 +68,52 @@ module _ (f : ℕ → ℕ) (c : Call) (book entries : List ℕ) (lent : length e
   -- a call that gives 0
   all-out : given .refusal ≡ 0 → AllOut f (c .text) book (received entries (given .written)) (given .number) (given .reads)
   all-out z =
-      let w = reached f c book (inl z) in
+      let w = reached f c book (λ o. o .not-0 z) in
       let is = given-is w in
-      let g = all-found f (c .text) [] (chosen all) (sym (ap (λ (g : Resolution). g .refusal) is) ∙ z) in
+      let g = all-found f (c .text) [] (chosen all) rises-none (sym (ap (λ (g : Resolution). g .refusal) is) ∙ z) in
       let same : cuesOf (chosen all) ≡ all = numbered-cues 0 all in
+      let stand : judged .places ≡ placesOf f (c .text) all = g .places ∙ ap (placesOf f (c .text)) same in
       record {
         all = all;
         read = w .read;
         number-is = ap (λ (g : Resolution). g .number) is ∙ g .number ∙ omega (arith, length-numbered 0 all);
+        rises = subst Rises stand (g .rises);
         grouped = book-grouped book (w .read);
-        reads-are = reads-given w refl ∙ reads-all (c .text) judged all (omega (arith, ap length (g .places ∙ ap (placesOf f (c .text)) same), length-map all (placeOf f (c .text))));
-        out =
-            came-out f (c .text) entries (rw same at (g .there)) (omega (arith, w .three, lent))
-            (entered-is w ∙ ap (λ (l : List ℕ). received entries (entriesOf (c .text) l)) (g .places ∙ ap (placesOf f (c .text)) same));
+        reads-are = reads-given w refl ∙ reads-all (c .text) judged all (omega (arith, ap length stand, length-map all (placeOf f (c .text))));
+        out = came-out f (c .text) entries (rw same at (g .there)) (omega (arith, w .three, lent)) (entered-is w ∙ ap (λ (l : List ℕ). received entries (entriesOf (c .text) l)) stand);
       }
 
-  -- a call that gives 12
-  one-missing : given .refusal ≡ 12 → OneMissing f (c .text) book (received entries (given .written)) (given .number) (given .reads)
-  one-missing z =
-      let w = reached f c book (inr z) in
+  -- a call that gives 12 or 15, whichever fault it is
+  one-faulty : (Fault : List Cue → Cue → Type 0) → ((earlier : List Cue) (d : Cue) → given .refusal ≡ cueFault f (c .text) (placesOf f (c .text) earlier) d → Fault earlier d)
+      → (Another (given .refusal) → ⊥) → (given .refusal ≡ 0 → ⊥) → OneFaulty f (c .text) Fault book (received entries (given .written)) (given .number) (given .reads)
+  one-faulty Fault means one some =
+      let w = reached f c book one in
       let is = given-is w in
-      let twelve : judged .refusal ≡ 12 = sym (ap (λ (g : Resolution). g .refusal) is) ∙ z in
-      let g = one-faulted f (c .text) [] (chosen all) (λ n. omega arith) in
+      let refusal : given .refusal ≡ judged .refusal = ap (λ (g : Resolution). g .refusal) is in
+      let g = one-faulted f (c .text) [] (chosen all) rises-none (λ n. some (refusal ∙ n)) in
       let split : all ≡ cuesOf (g .before) ++ g .faulty .cue ∷ cuesOf (g .later) = sym (numbered-cues 0 all) ∙ ap cuesOf (g .all) ∙ cues-split (g .before) (g .faulty) (g .later) in
       let few : length (cuesOf (g .before)) ≤ length all = omega (arith, ap length split, length-append (cuesOf (g .before)) (g .faulty .cue ∷ cuesOf (g .later))) in
       let here = group-of (cuesOf (g .before)) (g .faulty .cue) (cuesOf (g .later)) in
       let found : length (judged .places) ≡ length (cuesOf (g .before)) = ap length (g .places) ∙ length-map (cuesOf (g .before)) (placeOf f (c .text)) in
       record {
         earlier = cuesOf (g .before);
-        missing = g .faulty .cue;
+        faulty = g .faulty .cue;
         after = cuesOf (g .later);
         read = w .read ∙ ap cues split;
         number-is = ap (λ (g : Resolution). g .number) is ∙ g .number ∙ numbered-at 0 all (g .before) (g .faulty) (g .later) (g .all) ∙ omega (arith, length-map (g .before) (λ (x : Numbered). x .cue));
-        absent = missing f (c .text) (g .faulty .cue) (λ n. omega (arith, g .why));
+        fault = means (cuesOf (g .before)) (g .faulty .cue) (refusal ∙ g .why ∙ ap (λ (l : List ℕ). cueFault f (c .text) l (g .faulty .cue)) (g .places));
+        rises = subst Rises (g .places) (g .rises);
         grouped = book-grouped book (w .read ∙ ap cues split);
         group = here;
         reads-are = reads-given w split ∙ reads-up-to (c .text) judged (cuesOf (g .before)) (g .faulty .cue) (cuesOf (g .later)) here found;
         out = came-out f (c .text) entries (g .there) (omega (arith, w .three, lent)) (entered-is w ∙ ap (λ (l : List ℕ). received entries (entriesOf (c .text) l)) (g .places));
       }
+
+  one-missing : given .refusal ≡ 12 → OneFaulty f (c .text) (Missing f (c .text)) book (received entries (given .written)) (given .number) (given .reads)
+  one-missing z = one-faulty (Missing f (c .text)) (λ earlier d e. names-missing f (c .text) (placesOf f (c .text) earlier) d (sym e ∙ z)) (λ o. o .not-12 z) (λ n. omega arith)
+
+  one-falling : given .refusal ≡ 15 → OneFaulty f (c .text) (Falling f (c .text)) book (received entries (given .written)) (given .number) (given .reads)
+  one-falling z = one-faulty (Falling f (c .text)) (λ earlier d e. falling f (c .text) earlier d (sym e ∙ z)) (λ o. o .not-15 z) (λ n. omega arith)
 
 -- ---- any other refusal
 
@@ -94,31 +121,29 @@ idle-self : (number index : ℕ) → Idle (refusing number index)
 idle-self number index = record { works = refl; reads = refl; written = refl }
 
 module _ (f : ℕ → ℕ) (c : Call) where
-  -- cues that are resolved give 0 or 12
-  zero-or-twelve : (xs : List Numbered) → (resolution f (c .text) xs .refusal ≡ 0 → ⊥) → resolution f (c .text) xs .refusal ≡ 12
+  -- cues that are resolved give 0, 12 or 15
+  one-of-three : (xs : List Numbered) → Another (resolution f (c .text) xs .refusal) → ⊥
   unfolding resolution
-  zero-or-twelve xs some =
-      let g = one-faulted f (c .text) [] xs some in
-      g .why ∙ fault-missing f (c .text) (g .faulty .cue) (missing f (c .text) (g .faulty .cue) (λ z. some (g .why ∙ z)))
+  one-of-three xs o = let g = one-faulted f (c .text) [] xs rises-none (o .not-0) in two-faults f (c .text) (judge f (c .text) [] xs .places) (g .faulty .cue) (subst Another (g .why) o)
 
-  idle-book : (book : Reading) → let o = withBook f c book in (o .resolution .refusal ≡ 0 → ⊥) → (o .resolution .refusal ≡ 12 → ⊥) → Idle o
+  idle-book : (book : Reading) → let o = withBook f c book in Another (o .resolution .refusal) → Idle o
   unfolding withBook withCues
-  idle-book (refused number index) = λ some other. idle-self number index
+  idle-book (refused number index) = λ other. idle-self number index
   idle-book (cues cs) =
       by-test
-      (λ t. let o : Outcome = cond t (refusing 11 0) (record { works = true; resolution = resolution f (c .text) (chosen cs) }) in (o .resolution .refusal ≡ 0 → ⊥) → (o .resolution .refusal ≡ 12 → ⊥) → Idle o)
+      (λ t. let o : Outcome = cond t (refusing 11 0) (record { works = true; resolution = resolution f (c .text) (chosen cs) }) in Another (o .resolution .refusal) → Idle o)
       (ltb (c .entries) (3 * length (chosen cs)))
-      (λ _ some other. idle-self 11 0)
-      (λ _ some other. absurd (other (zero-or-twelve (chosen cs) some)))
+      (λ _ other. idle-self 11 0)
+      (λ _ other. absurd (one-of-three (chosen cs) other))
 
-  idle : (book : Reading) → let o = outcome f c book in (o .resolution .refusal ≡ 0 → ⊥) → (o .resolution .refusal ≡ 12 → ⊥) → Idle o
+  idle : (book : Reading) → let o = outcome f c book in Another (o .resolution .refusal) → Idle o
   unfolding outcome
   idle book =
       by-test
-      (λ t. let o : Outcome = cond t (withBook f c book) (refusing (callRefusal c) 0) in (o .resolution .refusal ≡ 0 → ⊥) → (o .resolution .refusal ≡ 12 → ⊥) → Idle o)
+      (λ t. let o : Outcome = cond t (withBook f c book) (refusing (callRefusal c) 0) in Another (o .resolution .refusal) → Idle o)
       (eqb (callRefusal c) 0)
       (λ _. idle-book book)
-      (λ _ some other. idle-self (callRefusal c) 0)
+      (λ _ other. idle-self (callRefusal c) 0)
 
 -- ---- a text folded beforehand
 
@@ -177,4 +202,4 @@ module _ (f : ℕ → ℕ) (twice : Idempotent f) (c : Call) where
 -- ---- the law
 
 pub law : (f : ℕ → ℕ) → Idempotent f → Law f
-law f twice = record { all-out = all-out f; one-missing = one-missing f; idle = idle f; same-places = same-places f twice; same-lines = λ keeps c. same-lines f twice c keeps }
+law f twice = record { all-out = all-out f; one-missing = one-missing f; one-falling = one-falling f; idle = idle f; same-places = same-places f twice; same-lines = λ keeps c. same-lines f twice c keeps }

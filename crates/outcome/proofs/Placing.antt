@@ -2,7 +2,7 @@
 use mathlib.Core.Path.{_≡_, refl, sym, ap, ap₂, _∙_}
 use Prim.Native.Nat.{ℕ, zero, suc, _+_, _-_, _*_, _≤_}
 use native.Mathlib.Omega.{arith}
-use mathlib.Core.Bool.{true, cond, not}
+use mathlib.Core.Bool.{true, cond}
 use mathlib.Core.List.{List, [], _∷_, _++_, map}
 use lib.ListN.{length, getD, take, drop, length-append, length-drop, length-map}
 use lib.Seq.{drop-append-le, take-append-le}
@@ -10,14 +10,13 @@ use lib.Dec.{eqb, leb}
 use borrow.Author.Tests.{leb-true}
 use Rattle.matching.specs.Occurrences.{occurrences, hasNth}
 use Rattle.matching.specs.Received.{received}
-use Rattle.matching.specs.Refusals.{firstMet}
 use Rattle.matching.proofs.CaseAnalysis.{both}
 use Rattle.matching.proofs.Received.{received-front}
 use Rattle.matching.proofs.Occurrences.{member, occurrences-are, occurrences-rise}
 use Rattle.cues.specs.Cue.{Cue}
 use Rattle.line_column.specs.declared.LineColumn.{LineColumn}
 use Rattle.line_column.specs.LineColumn.{lineColumn}
-use Rattle.outcome.specs.Outcome.{Numbered, cuesOf, cueOccurrences, isThere, placeOf, cueFault, Judged, judge, entriesOf, groups, judgedOf, readsOf, resolution}
+use Rattle.outcome.specs.Outcome.{Numbered, cuesOf, cueOccurrences, isThere, placeOf, faultOf, placeBefore, cueFault, Judged, judge, entriesOf, groups, judgedOf, readsOf, resolution}
 use Rattle.outcome.specs.Told.{Idempotent, KeepsLines, AllThere, placesOf, CameOut, Named}
 
 -- ---- the occurrence that a cue names
@@ -80,7 +79,7 @@ module _ (f : ℕ → ℕ) (text : List ℕ) where
   all-there [] c later a = a .0
   all-there (b ∷ before) c later a = all-there before c later (a .1)
 
-  places-split : (before : List Cue) (c : Cue) (later : List Cue) → placesOf f text (before ++ c ∷ later) ≡ placesOf f text before ++ placeOf f text c ∷ placesOf f text later
+  pub places-split : (before : List Cue) (c : Cue) (later : List Cue) → placesOf f text (before ++ c ∷ later) ≡ placesOf f text before ++ placeOf f text c ∷ placesOf f text later
   places-split [] c later = refl
   places-split (b ∷ before) c later = ap (λ (l : List ℕ). placeOf f text b ∷ l) (places-split before c later)
 
@@ -122,9 +121,9 @@ module _ (f : ℕ → ℕ) (twice : Idempotent f) where
   unfolding cueOccurrences
   occurrences-folded text c = ap (occurrences (map f (c .phrase))) (text-twice text)
 
-  fault-folded : (text : List ℕ) (c : Cue) → cueFault f (map f text) c ≡ cueFault f text c
+  fault-folded : (text found : List ℕ) (c : Cue) → cueFault f (map f text) found c ≡ cueFault f text found c
   unfolding cueFault
-  fault-folded text c = ap (λ (l : List ℕ). firstMet ((not (hasNth l (c .ordinal)), 12) ∷ [])) (occurrences-folded text c)
+  fault-folded text found c = ap (λ (l : List ℕ). faultOf (hasNth l (c .ordinal)) (length found) (placeBefore found) (getD l (c .ordinal - 1) 0)) (occurrences-folded text c)
 
   -- the same places, the same fault
   pub judge-folded : (text found : List ℕ) (xs : List Numbered) → judge f (map f text) found xs ≡ judge f text found xs
@@ -135,7 +134,7 @@ module _ (f : ℕ → ℕ) (twice : Idempotent f) where
       let place : placeOf f (map f text) (x .cue) ≡ p = ap (λ (l : List ℕ). getD l (x .cue .ordinal - 1) 0) (occurrences-folded text (x .cue)) in
       let rest : judge f (map f text) (found ++ placeOf f (map f text) (x .cue) ∷ []) xs ≡ judge f text (found ++ p ∷ []) xs =
       ap (λ (q : ℕ). judge f (map f text) (found ++ q ∷ []) xs) place ∙ judge-folded text (found ++ p ∷ []) xs in
-      ap₂ (λ (k : ℕ) (j : Judged). cond (eqb k 0) j (record { refusal = k; number = x .number; places = found })) (fault-folded text (x .cue)) rest
+      ap₂ (λ (k : ℕ) (j : Judged). cond (eqb k 0) j (record { refusal = k; number = x .number; places = found })) (fault-folded text found (x .cue)) rest
 
   -- the same lines and columns, where the fold keeps line ends
   module _ (keeps : KeepsLines f) where

@@ -1,7 +1,7 @@
--- What resolving the cues of a book comes to (document 01, "Cue book, folding, lines"; document 02, (iv) and (vi)): which cues are chosen, where each stands, the first fault, what is written, and how
+-- What resolving the cues of a book comes to (document 01, "Cue book, folding, lines"; document 02, (iv), (vi) and (vii)): which cues are chosen, where each stands, the first fault, what is written, and how
 -- often the text's letters are read. It says nothing of how the places are found.
 use Prim.Native.Nat.{ℕ, suc, _+_, _-_, _*_}
-use mathlib.Core.Bool.{Bool, true, false, cond, not, _&&_}
+use mathlib.Core.Bool.{Bool, true, false, cond, not, _&&_, _||_}
 use mathlib.Core.List.{List, [], _∷_, _++_, map}
 use lib.ListN.{length, getD, take}
 use lib.Dec.{eqb, ltb, leb}
@@ -10,7 +10,7 @@ use Rattle.matching.specs.Refusals.{Test, firstMet}
 use Rattle.fold.specs.Fold.{isPage}
 use Rattle.cues.specs.Cue.{Cue}
 use Rattle.cue_book.specs.Reading.{Reading, refused, cues}
-use Rattle.line_column.specs.LineColumn.{lineColumn}
+use Rattle.line_column.specs.LineColumn.{lastOf, lineColumn}
 
 -- ---- choose: the cues that are resolved, each with the number by which a fault names it
 
@@ -48,13 +48,27 @@ placeOf f text c = getD (cueOccurrences f text c) (c .ordinal - 1) 0
 
 -- ---- judge: the first fault, and the places before it
 
--- the refusals of one cue: there is no such occurrence (12)
-abbrev pub cueTests : (ℕ → ℕ) → List ℕ → Cue → List Test
-cueTests f text c = (not (isThere f text c), 12) ∷ []
+-- whether a place is above that of the cue before it, where so many cues came before; the first has none before it
+abbrev pub above : ℕ → ℕ → ℕ → Bool
+above before last place = eqb before 0 || ltb last place
 
-unfoldable pub cueFault : (ℕ → ℕ) → List ℕ → Cue → ℕ
-unfolding firstMet cueOccurrences
-cueFault f text c = firstMet (cueTests f text c)
+-- the refusals of one cue: there is no such occurrence (12); its place is not above that of the cue before it (15)
+abbrev pub cueTests : Bool → Bool → List Test
+cueTests there forward = (not there, 12) ∷ (not forward, 15) ∷ []
+
+-- the fault of a cue, 0 for none, by whether its occurrence exists, how many cues came before it, the place of the last of them, and its own
+unfoldable pub faultOf : Bool → ℕ → ℕ → ℕ → ℕ
+unfolding firstMet
+faultOf there before last place = firstMet (cueTests there (above before last place))
+
+-- the place of the cue before, the last of those found
+abbrev pub placeBefore : List ℕ → ℕ
+placeBefore found = lastOf 0 found
+
+-- the same by a fold, where these places were found before
+unfoldable pub cueFault : (ℕ → ℕ) → List ℕ → List ℕ → Cue → ℕ
+unfolding faultOf cueOccurrences lastOf
+cueFault f text found c = faultOf (isThere f text c) (length found) (placeBefore found) (placeOf f text c)
 
 -- 0 and the number of cues, or a refusal and the number of its cue; and the places of the cues before it
 pub record Judged : Type 0 where
@@ -68,7 +82,7 @@ unfolding cueFault
 judge f text found [] = record { refusal = 0; number = length found; places = found }
 judge f text found (x ∷ xs) =
     let rest = judge f text (found ++ placeOf f text (x .cue) ∷ []) xs in
-    cond (eqb (cueFault f text (x .cue)) 0) rest (record { refusal = cueFault f text (x .cue); number = x .number; places = found })
+    cond (eqb (cueFault f text found (x .cue)) 0) rest (record { refusal = cueFault f text found (x .cue); number = x .number; places = found })
 
 -- ---- write: place, line and column of each; line and column are those of the text as lent
 

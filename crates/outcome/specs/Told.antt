@@ -19,6 +19,10 @@ Idempotent f = (b : ℕ) → f (f b) ≡ f b
 abbrev pub KeepsLines : (ℕ → ℕ) → Type 0
 KeepsLines f = (text : List ℕ) (place : ℕ) → lineColumn (map f text) place ≡ lineColumn text place
 
+-- each place is above all before it
+abbrev pub Rises : List ℕ → Type 0
+Rises places = (i j : ℕ) → i < j → j < length places → getD places i 0 < getD places j 0
+
 -- ---- the groups (document 02, (vi))
 
 -- one after another
@@ -82,13 +86,14 @@ module _ (f : ℕ → ℕ) (text : List ℕ) where
   abbrev pub placesOf : List Cue → List ℕ
   placesOf cs = map (placeOf f text) cs
 
-  -- no fault: every cue is found, and the number is that of the cues; `found` stood before them
+  -- no fault: every cue is found, the places rise, and the number is that of the cues; `found` stood before them
   pub record Found (found : List ℕ) (xs : List Numbered) (j : Judged) : Type 0 where
     pub there : AllThere (cuesOf xs)
     pub number : j .number ≡ length found + length xs
     pub places : j .places ≡ found ++ placesOf (cuesOf xs)
+    pub rises : Rises (j .places)
 
-  -- the first cue with a fault: those before it are found, and it is named
+  -- the first cue with a fault: those before it are found and their places rise, and it is named
   pub record Faulted (found : List ℕ) (xs : List Numbered) (j : Judged) : Type 0 where
     pub before : List Numbered
     pub faulty : Numbered
@@ -97,7 +102,8 @@ module _ (f : ℕ → ℕ) (text : List ℕ) where
     pub there : AllThere (cuesOf before)
     pub number : j .number ≡ faulty .number
     pub places : j .places ≡ found ++ placesOf (cuesOf before)
-    pub why : j .refusal ≡ cueFault f text (faulty .cue)
+    pub rises : Rises (j .places)
+    pub why : j .refusal ≡ cueFault f text (j .places) (faulty .cue)
 
   -- the folded phrase stands there in the folded text, and exactly the occurrences before the cue's ordinal stand before it
   pub record Named (c : Cue) (place : ℕ) : Type 0 where
@@ -111,27 +117,48 @@ module _ (f : ℕ → ℕ) (text : List ℕ) where
     pub named : Named c (placeOf f text c)
     pub entered : take 3 (drop (3 * index) entries) ≡ entriesOf text (placeOf f text c ∷ [])
 
-  -- refusal 0: the book reads as cues, the number is how many, every one of them came out, and every letter was read once for each of their groups
+  -- refusal 0: the book reads as cues, the number is how many, every one of them came out, their places rise, and every letter was read once for each of their groups
   pub record AllOut (book entries : List ℕ) (number reads : ℕ) : Type 0 where
     pub all : List Cue
     pub read : readBook book ≡ cues all
     pub number-is : number ≡ length all
+    pub rises : Rises (placesOf all)
     pub grouped : Grouping all (groups all)
     pub reads-are : reads ≡ length text * length (groups all)
     pub out : (before : List Cue) (c : Cue) (later : List Cue) → all ≡ before ++ c ∷ later → CameOut entries (length before) c
 
-  -- refusal 12: the book reads as cues, and the number is the index of one whose occurrence does not exist; every cue before that one came out, and every letter was read once for each group up to its own
-  pub record OneMissing (book entries : List ℕ) (number reads : ℕ) : Type 0 where
+  -- a cue's fault: the book reads as cues, and the number is the index of one with this fault, which may speak of those before it; every cue before it came out, their places rise, and every letter was
+  -- read once for each group up to its own
+  pub record OneFaulty (Fault : List Cue → Cue → Type 0) (book entries : List ℕ) (number reads : ℕ) : Type 0 where
     pub earlier : List Cue
-    pub missing : Cue
+    pub faulty : Cue
     pub after : List Cue
-    pub read : readBook book ≡ cues (earlier ++ missing ∷ after)
+    pub read : readBook book ≡ cues (earlier ++ faulty ∷ after)
     pub number-is : number ≡ length earlier
-    pub absent : isThere f text missing ≡ false
-    pub grouped : Grouping (earlier ++ missing ∷ after) (groups (earlier ++ missing ∷ after))
-    pub group : GroupOf earlier missing after
+    pub fault : Fault earlier faulty
+    pub rises : Rises (placesOf earlier)
+    pub grouped : Grouping (earlier ++ faulty ∷ after) (groups (earlier ++ faulty ∷ after))
+    pub group : GroupOf earlier faulty after
     pub reads-are : reads ≡ length text * groupNumber group
     pub out : (before : List Cue) (c : Cue) (later : List Cue) → earlier ≡ before ++ c ∷ later → CameOut entries (length before) c
+
+  -- refusal 12: its occurrence does not exist
+  abbrev pub Missing : List Cue → Cue → Type 0
+  Missing earlier c = isThere f text c ≡ false
+
+  -- refusal 15: its occurrence exists, and stands where that of the cue before it does or before that
+  pub record Falling (earlier : List Cue) (c : Cue) : Type 0 where
+    pub there : isThere f text c ≡ true
+    pub front : List Cue
+    pub previous : Cue
+    pub last : earlier ≡ front ++ previous ∷ []
+    pub low : placeOf f text c ≤ placeOf f text previous
+
+-- a refusal that is no cue's: neither 0, nor 12 or 15
+pub record Another (refusal : ℕ) : Type 0 where
+  pub not-0 : refusal ≡ 0 → ⊥
+  pub not-12 : refusal ≡ 12 → ⊥
+  pub not-15 : refusal ≡ 15 → ⊥
 
 -- any other refusal: the lent memory is not worked on, nothing is read, and nothing is written
 pub record Idle (o : Outcome) : Type 0 where
@@ -159,7 +186,9 @@ pub record Law (f : ℕ → ℕ) : Type 0 where
   pub all-out : (c : Call) (book entries : List ℕ) → length entries ≡ c .entries → let o = outcome f c (readBook book) .resolution in
       o .refusal ≡ 0 → AllOut f (c .text) book (received entries (o .written)) (o .number) (o .reads)
   pub one-missing : (c : Call) (book entries : List ℕ) → length entries ≡ c .entries → let o = outcome f c (readBook book) .resolution in
-      o .refusal ≡ 12 → OneMissing f (c .text) book (received entries (o .written)) (o .number) (o .reads)
-  pub idle : (c : Call) (book : Reading) → let o = outcome f c book in (o .resolution .refusal ≡ 0 → ⊥) → (o .resolution .refusal ≡ 12 → ⊥) → Idle o
+      o .refusal ≡ 12 → OneFaulty f (c .text) (Missing f (c .text)) book (received entries (o .written)) (o .number) (o .reads)
+  pub one-falling : (c : Call) (book entries : List ℕ) → length entries ≡ c .entries → let o = outcome f c (readBook book) .resolution in
+      o .refusal ≡ 15 → OneFaulty f (c .text) (Falling f (c .text)) book (received entries (o .written)) (o .number) (o .reads)
+  pub idle : (c : Call) (book : Reading) → let o = outcome f c book in Another (o .resolution .refusal) → Idle o
   pub same-places : (c : Call) (book : Reading) → SamePlaces (outcome f (beforehand f c) book) (outcome f c book)
   pub same-lines : KeepsLines f → (c : Call) (book : Reading) → outcome f (beforehand f c) book ≡ outcome f c book

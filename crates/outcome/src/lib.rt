@@ -1,8 +1,9 @@
 // What resolving the cues of a book comes to, as definitions and laws: which cues are chosen, where each stands, the first fault, what is written, how often the text is read, and what a call gives back.
-// `resolver` computes what is defined here; the one function of this crate makes the tests of a call before its book is read. A change to a definition or a law is checked here, in a second or two.
+// `resolver` computes what is defined here; the functions of this crate make the tests of a call before its book is read, and those of a cue. A change to a definition or a law is checked here, in a
+// second or two.
 // It depends on `matching` for the occurrences and the table of refusals, on `fold` for the pages that there are, on `line_column` for the line rule, on `cue_fields` and `cues` for a cue, and on `cue_book` for what a book reads as.
 ghost use mathlib.Core.Path.{_≡_};
-ghost use Rattle.outcome.specs.Outcome.{callRefusalOf};
+ghost use Rattle.outcome.specs.Outcome.{callRefusalOf, faultOf};
 
 // The tests of the text, of the page and of the lent memory, before the book is read; 0 for none.
 pub fn refused(page: u32, n: usize, copy: usize, scratch: usize) -> u32
@@ -19,6 +20,23 @@ pub fn refused(page: u32, n: usize, copy: usize, scratch: usize) -> u32
     }
     if copy < n {
         return 6;
+    }
+    0
+}
+
+// The tests of a cue, by whether its occurrence exists, how many cues came before it, the place of the last of them, and its own; 0 for none.
+pub fn cue_refused(there: bool, before: usize, last: u32, place: u32) -> u32
+    ensures { λ r. ⌜ r ≡ faultOf there before last place ⌝ }
+{
+    if !there {
+        return 12;
+    }
+    if before == 0 {
+        // it is the first: none stands before it
+        return 0;
+    }
+    if place <= last {
+        return 15;
     }
     0
 }

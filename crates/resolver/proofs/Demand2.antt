@@ -1,8 +1,8 @@
--- Demand 2 on the resolver, for what a caller has: a resolve that gives 0 has every cue at the occurrence that it names (`all-out`), one that gives 12 every cue before the named one, whose
--- occurrence does not exist (`one-missing`), and both say how often the text was read; one that gives any other refusal has read nothing and left all as before (`idle`); and a text folded
--- beforehand gives the same (`folded-before`). Each is the law of any fold (`law` of `outcome`) for the fold of the call's page (`page-law`), since that one changes nothing the second time and keeps
--- line ends. Assumes nothing.
-use mathlib.Core.Path.{_≡_, refl, sym, ap, _∙_}
+-- Demand 2 on the resolver, for what a caller has: a resolve that gives 0 has every cue at the occurrence that it names, and their places rise (`all-out`); one that gives 12 or 15 has every cue before the
+-- named one, whose occurrence does not exist (`one-missing`), or does not stand above that of the cue before it (`one-falling`); all say how often the text was read; one that gives any other refusal has
+-- read nothing and left all as before (`idle`); and a text folded beforehand gives the same (`folded-before`). Each is the law of any fold (`law` of `outcome`) for the fold of the call's page (`page-law`),
+-- since that one changes nothing the second time and keeps line ends. Assumes nothing.
+use mathlib.Core.Path.{_≡_, refl, sym, ap, subst, _∙_}
 use Prim.Native.Nat.{ℕ}
 use native.Mathlib.Omega.{arith}
 use mathlib.Core.List.{List, map}
@@ -13,7 +13,7 @@ use Rattle.fold.proofs.Fold.{page-twice, page-control}
 use Rattle.cue_book.specs.Reading.{readBook}
 use Rattle.line_column.proofs.Lines.{lines-kept}
 use Rattle.outcome.specs.Outcome.{Call, Outcome}
-use Rattle.outcome.specs.Told.{KeepsLines, AllOut, OneMissing, Law}
+use Rattle.outcome.specs.Told.{KeepsLines, AllOut, OneFaulty, Missing, Falling, Another, Law}
 use Rattle.outcome.proofs.Law.{law}
 use Rattle.resolver.specs.declared.Resolving.{Resolving}
 use Rattle.resolver.specs.Resolver.{call, answerOf, Resolved}
@@ -36,15 +36,17 @@ module _ {page : ℕ} {book text copy scratch entries : List ℕ} {r : Resolving
   pub all-out : r .refusal ≡ 0 → AllOut (foldOn page) text book entries′ (r .number) (r .reads)
   all-out z = rw (made .answer, made .entered) (page-law page .all-out called book entries refl (sym (ap (λ (a : Resolving). a .refusal) (made .answer)) ∙ z))
 
-  pub one-missing : r .refusal ≡ 12 → OneMissing (foldOn page) text book entries′ (r .number) (r .reads)
+  pub one-missing : r .refusal ≡ 12 → OneFaulty (foldOn page) text (Missing (foldOn page) text) book entries′ (r .number) (r .reads)
   one-missing z = rw (made .answer, made .entered) (page-law page .one-missing called book entries refl (sym (ap (λ (a : Resolving). a .refusal) (made .answer)) ∙ z))
+
+  pub one-falling : r .refusal ≡ 15 → OneFaulty (foldOn page) text (Falling (foldOn page) text) book entries′ (r .number) (r .reads)
+  one-falling z = rw (made .answer, made .entered) (page-law page .one-falling called book entries refl (sym (ap (λ (a : Resolving). a .refusal) (made .answer)) ∙ z))
 
   -- ---- any other refusal
 
-  pub idle : (r .refusal ≡ 0 → ⊥) → (r .refusal ≡ 12 → ⊥) → (r .reads ≡ 0) × ((copy′ ≡ copy) × ((scratch′ ≡ scratch) × (entries′ ≡ entries)))
-  idle some other =
-      let is = ap (λ (a : Resolving). a .refusal) (made .answer) in
-      let i = page-law page .idle called (readBook book) (λ z. some (is ∙ z)) (λ z. other (is ∙ z)) in
+  pub idle : Another (r .refusal) → (r .reads ≡ 0) × ((copy′ ≡ copy) × ((scratch′ ≡ scratch) × (entries′ ≡ entries)))
+  idle other =
+      let i = page-law page .idle called (readBook book) (subst Another (ap (λ (a : Resolving). a .refusal) (made .answer)) other) in
       (ap (λ (a : Resolving). a .reads) (made .answer) ∙ i .reads, (made .copied ∙ rw (i .works), (made .emptied ∙ rw (i .works), made .entered ∙ rw (i .written) (received-none entries))))
 
   -- ---- a text folded beforehand, in a call otherwise alike, gives the same back and the same entries

@@ -2,12 +2,12 @@
 use mathlib.Core.Path.{_≡_, refl, sym, ap, ap₂, subst, _∙_}
 use Prim.Native.Nat.{ℕ, zero, suc, _+_, _-_, _≤_, _<_}
 use native.Mathlib.Omega.{arith}
-use mathlib.Core.Bool.{false, cond}
-use mathlib.Core.List.{List, [], _∷_, _++_, map}
+use mathlib.Core.Bool.{Bool, true, false, cond}
+use mathlib.Core.List.{List, [], _∷_, _++_, map, append-assoc, append-nil}
 use lib.ListN.{length, getD, take, length-append, length-map}
 use lib.Seq.{take-append-seam}
 use lib.Dec.{eqb}
-use borrow.Author.Tests.{eqb-true, eqb-false}
+use borrow.Author.Tests.{eq-eqb, ne-eqb, eqb-true, eqb-false}
 use Rattle.matching.specs.Occurrences.{occurrences, hasNth}
 use Rattle.matching.proofs.CaseAnalysis.{by-test}
 use Rattle.fold.specs.Fold.{foldOn}
@@ -17,11 +17,11 @@ use Rattle.automaton.specs.declared.Walked.{Walked}
 use Rattle.automaton.specs.Locate.{Accepted, Located, Answered}
 use Rattle.automaton.proofs.Locating as locating
 use Rattle.cues.specs.Cue.{Cue}
-use Rattle.outcome.specs.Outcome.{letters, cueOccurrences, isThere}
-use Rattle.outcome.specs.Told.{AllThere, placesOf}
+use Rattle.outcome.specs.Outcome.{letters, Numbered, numberedFrom, cueOccurrences, isThere, placeOf, faultOf, placeBefore, cueFault, judge}
+use Rattle.outcome.proofs.Judging.{none-there, last-more, judge-on, judge-stop, judge-end}
 use Rattle.outcome.proofs.Grouping.{fit-few, fit-short}
 use Rattle.resolver.specs.declared.CuesRead.{CuesRead}
-use Rattle.resolver.specs.Walking.{Held, cuesHeld, startsOf, lensOf, ordinalsOf, Gathered, Searchable, Told, Searched, passing}
+use Rattle.resolver.specs.Walking.{Held, cuesHeld, startsOf, lensOf, ordinalsOf, Gathered, Searchable, Told, Searched, Passing, passing}
 
 -- ---- the held cues, as the automaton takes them
 
@@ -167,60 +167,74 @@ module _ {page : ℕ} {book : List ℕ} {index rest place : ℕ} {copy scratch l
         held : {l : List ℕ} → length l ≡ r .count → (m : List ℕ) → take (r .count) (l ++ m) ≡ l
         held {l} e m = ap (λ (k : ℕ). take k (l ++ m)) (sym e) ∙ take-append-seam l m
 
--- ---- from what is told of a group: those before the first that is missing are found, and stand where they should
-
-pub record Passed (f : ℕ → ℕ) (text : List ℕ) (cs : List Cue) (ps : List ℕ) : Type 0 where
-  pub most : length ps ≤ length cs
-  pub there : AllThere f text (take (length ps) cs)
-  pub places : ps ≡ placesOf f text (take (length ps) cs)
-  pub missing : (before : List Cue) (c : Cue) (later : List Cue) → cs ≡ before ++ c ∷ later → length ps ≡ length before → isThere f text c ≡ false
-
--- the first of some cues or else that one, and the others
-firstOr : Cue → List Cue → Cue
-firstOr d [] = d
-firstOr d (c ∷ cs) = c
-
-others : List Cue → List Cue
-others [] = []
-others (c ∷ cs) = cs
+-- ---- from what is told of a group: what passes is what is judged
 
 module _ (f : ℕ → ℕ) (text : List ℕ) where
-  pub passed : (left places : List ℕ) (cs : List Cue) → length left ≡ length cs → length places ≡ length cs → Told f text left places cs → Passed f text cs (passing left places)
-  unfolding passing AllThere firstOr others
-  passed [] places [] e k t =
-      record {
-        most = omega arith;
-        there = tt;
-        places = refl;
-        missing = λ before c later split n. let none : 0 ≡ length (before ++ c ∷ later) = ap length split in absurd (omega (arith, length-append before (c ∷ later)));
-      }
-  passed [] places (c ∷ cs) e k t = absurd (omega arith)
-  passed (l ∷ left) places [] e k t = absurd (omega arith)
-  passed (l ∷ left) [] (c ∷ cs) e k t = absurd (omega arith)
-  passed (l ∷ left) (p ∷ places) (c ∷ cs) e k t =
-      by-test (λ z. (eqb l 0 ≡ z) → Passed f text (c ∷ cs) (cond z (p ∷ passing left places) [])) (eqb l 0)
-      (λ _ z.
-      let here = t .found [] c cs refl (eqb-true l 0 z) in
-      let rest = passed left places cs (omega arith) (omega arith) (record { found = λ before d later split. t .found (c ∷ before) d later (ap (λ (m : List Cue). c ∷ m) split); missing = λ before d later split. t .missing (c ∷ before) d later (ap (λ (m : List Cue). c ∷ m) split) }) in
-      record {
-        most = omega (arith, rest .most);
-        there = (here .0, rest .there);
-        places = ap₂ (λ (q : ℕ) (qs : List ℕ). q ∷ qs) (here .1) (rest .places);
-        missing = after rest;
-      })
-      (λ _ z.
-      record {
-        most = omega arith;
-        there = tt;
-        places = refl;
-        missing = first (eqb-false l 0 z);
-      })
-      refl
-    where
-      after : Passed f text cs (passing left places) → (before : List Cue) (d : Cue) (later : List Cue) → c ∷ cs ≡ before ++ d ∷ later → suc (length (passing left places)) ≡ length before → isThere f text d ≡ false
-      after rest [] d later split n = absurd (omega arith)
-      after rest (b ∷ before) d later split n = rest .missing before d later (ap others split) (omega arith)
+  -- a cue's fault, where so many places were found before and the last of them is that
+  fault-at : {n last : ℕ} (found : List ℕ) (c : Cue) → n ≡ length found → last ≡ placeBefore found → cueFault f text found c ≡ faultOf (isThere f text c) n last (placeOf f text c)
+  unfolding cueFault
+  fault-at found c e k = ap₂ (λ (i j : ℕ). faultOf (isThere f text c) i j (placeOf f text c)) (sym e) (sym k)
 
-      first : (l ≡ 0 → ⊥) → (before : List Cue) (d : Cue) (later : List Cue) → c ∷ cs ≡ before ++ d ∷ later → 0 ≡ length before → isThere f text d ≡ false
-      first some [] d later split n = subst (λ (x : Cue). isThere f text x ≡ false) (ap (firstOr c) split) (t .missing [] c cs refl (omega (arith, some)))
-      first some (b ∷ before) d later split n = absurd (omega arith)
+  -- from what is told of it: nothing is left, and it stands there
+  told-there : (n last : ℕ) {l p : ℕ} (c : Cue) → l ≡ 0 → (isThere f text c ≡ true) × (p ≡ placeOf f text c) → faultOf (eqb l 0) n last p ≡ faultOf (isThere f text c) n last (placeOf f text c)
+  told-there n last {l} c e h = ap₂ (λ (b : Bool) (q : ℕ). faultOf b n last q) (eq-eqb l 0 e ∙ sym (h .0)) (h .1)
+
+  -- something is left, so that its place plays no part
+  told-missing : (n last p : ℕ) {l : ℕ} (c : Cue) → (l ≡ 0 → ⊥) → isThere f text c ≡ false → (faultOf (eqb l 0) n last p ≡ 12) × (faultOf (isThere f text c) n last (placeOf f text c) ≡ 12)
+  told-missing n last p {l} c e h =
+      (ap (λ (b : Bool). faultOf b n last p) (ne-eqb l 0 e) ∙ none-there n last p, ap (λ (b : Bool). faultOf b n last (placeOf f text c)) h ∙ none-there n last (placeOf f text c))
+
+  -- what is told of the others
+  told-others : {l p : ℕ} {left places : List ℕ} {c : Cue} {cs : List Cue} → Told f text (l ∷ left) (p ∷ places) (c ∷ cs) → Told f text left places cs
+  told-others {l} {p} {left} {places} {c} t =
+      record {
+        found = λ before d later split. t .found (c ∷ before) d later (ap (λ (m : List Cue). c ∷ m) split);
+        missing = λ before d later split. t .missing (c ∷ before) d later (ap (λ (m : List Cue). c ∷ m) split);
+      }
+
+  pub judged : (n last : ℕ) (found left places : List ℕ) (cs : List Cue) → n ≡ length found → last ≡ placeBefore found → length left ≡ length cs → length places ≡ length cs → Told f text left places cs
+      → let s = passing n last left places in judge f text found (numberedFrom n cs) ≡ record { refusal = s .refusal; number = n + length (s .places); places = found ++ s .places }
+  unfolding passing numberedFrom
+  judged n last found [] places [] en el e k t = judge-end f text found ∙ ap₂ (λ (i : ℕ) (l : List ℕ). record { refusal = 0; number = i; places = l }) (omega (arith, en)) (sym (append-nil found))
+  judged n last found [] places (c ∷ cs) en el e k t = absurd (omega arith)
+  judged n last found (l ∷ left) places [] en el e k t = absurd (omega arith)
+  judged n last found (l ∷ left) [] (c ∷ cs) en el e k t = absurd (omega arith)
+  judged n last found (l ∷ left) (p ∷ places) (c ∷ cs) en el e k t =
+      let x : Numbered = record { number = n; cue = c } in
+      let xs : List Numbered = numberedFrom (suc n) cs in
+      let fault : ℕ = faultOf (eqb l 0) n last p in
+      let rest : Passing = passing (suc n) p left places in
+      let is = fault-at found c en el in
+      by-test
+      (λ b. let s : Passing = cond b (record { refusal = rest .refusal; places = p ∷ rest .places }) (record { refusal = fault; places = [] }) in
+      judge f text found (x ∷ xs) ≡ record { refusal = s .refusal; number = n + length (s .places); places = found ++ s .places })
+      (eqb fault 0)
+      (λ b.
+      let z = eqb-true fault 0 b in
+      let none : l ≡ 0 = nothing-left z in
+      let h = t .found [] c cs refl none in
+      let again = judged (suc n) p (found ++ p ∷ []) left places cs (omega (arith, en, length-append found (p ∷ []))) (sym (last-more found p)) (omega arith) (omega arith) (told-others t) in
+      judge-on f text found x xs (is ∙ sym (told-there n last c none h) ∙ z)
+      ∙ ap (λ (q : ℕ). judge f text (found ++ q ∷ []) xs) (sym (h .1))
+      ∙ again
+      ∙ ap₂ (λ (i : ℕ) (ps : List ℕ). record { refusal = rest .refusal; number = i; places = ps }) (omega arith) (append-assoc found (p ∷ []) (rest .places)))
+      (λ b.
+      let some = eqb-false fault 0 b in
+      let same : cueFault f text found c ≡ fault = is ∙ sym faults in
+      judge-stop f text found x xs (λ z. some (sym same ∙ z))
+      ∙ ap (λ (i : ℕ). record { refusal = i; number = n; places = found }) same
+      ∙ ap₂ (λ (i : ℕ) (ps : List ℕ). record { refusal = fault; number = i; places = ps }) (omega arith) (sym (append-nil found)))
+    where
+      nothing-left : faultOf (eqb l 0) n last p ≡ 0 → l ≡ 0
+      nothing-left z =
+          by-test (λ _. l ≡ 0) (eqb l 0) (eqb-true l 0)
+          (λ b. let some = eqb-false l 0 b in absurd (omega (arith, told-missing n last p c some (t .missing [] c cs refl (omega (arith, some))) .0)))
+
+      faults : faultOf (eqb l 0) n last p ≡ faultOf (isThere f text c) n last (placeOf f text c)
+      faults =
+          by-test (λ _. faultOf (eqb l 0) n last p ≡ faultOf (isThere f text c) n last (placeOf f text c)) (eqb l 0)
+          (λ b. let none = eqb-true l 0 b in told-there n last c none (t .found [] c cs refl none))
+          (λ b.
+          let some = eqb-false l 0 b in
+          let m = told-missing n last p c some (t .missing [] c cs refl (omega (arith, some))) in
+          m .0 ∙ sym (m .1))

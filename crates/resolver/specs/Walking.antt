@@ -1,6 +1,6 @@
 -- What the resolver asks of its walk over the groups of a book's cues. Not part of any public promise.
 use mathlib.Core.Path.{_≡_}
-use Prim.Native.Nat.{ℕ, _+_, _-_, _*_, _≤_}
+use Prim.Native.Nat.{ℕ, suc, _+_, _-_, _*_, _≤_, _<_}
 use mathlib.Core.Bool.{true, false, cond}
 use mathlib.Core.List.{List, [], _∷_, _++_, map}
 use lib.ListN.{length, getD, take, drop, replicate}
@@ -10,9 +10,9 @@ use Rattle.fold.specs.Fold.{isPage, foldOn}
 use Rattle.cues.specs.Cue.{Cue}
 use Rattle.cue_book.specs.Reading.{cues, readUpTo, readBook, cuesIn}
 use Rattle.line_column.specs.declared.LineColumn.{LineColumn}
-use Rattle.line_column.specs.LineColumn.{lineColumn}
-use Rattle.outcome.specs.Outcome.{chosen, isThere, placeOf, entriesOf, Resolution, resolution}
-use Rattle.outcome.specs.Told.{AllThere, placesOf, Group}
+use Rattle.line_column.specs.LineColumn.{lastOf, lineColumn}
+use Rattle.outcome.specs.Outcome.{numberedFrom, chosen, isThere, placeOf, faultOf, placeBefore, judge, entriesOf, Resolution, resolution}
+use Rattle.outcome.specs.Told.{Group}
 use Rattle.resolver.specs.declared.Resolving.{Resolving}
 use Rattle.resolver.specs.Resolver.{answerOf}
 use Rattle.resolver.specs.declared.CuesRead.{CuesRead}
@@ -111,15 +111,26 @@ pub record Searched (page : ℕ) (book : List ℕ) (index place : ℕ) (copy scr
 
 -- ---- the entries of a group
 
--- the places before the first cue that was not found
-unfoldable pub passing : List ℕ → List ℕ → List ℕ
-passing [] places = []
-passing (l ∷ left) [] = []
-passing (l ∷ left) (p ∷ places) = cond (eqb l 0) (p ∷ passing left places) []
+-- the first fault of some cues or 0, and the places of those before it
+pub record Passing : Type 0 where
+  pub refusal : ℕ
+  pub places : List ℕ
 
-pub record Put (text : List ℕ) (at : ℕ) (left places entries : List ℕ) (r : EntriesPut) (entries′ : List ℕ) : Type 0 where
-  pub counted : r .count ≡ length (passing left places)
-  pub entered : entries′ ≡ receivedFrom at entries (entriesOf text (passing left places))
+-- for cues of which so many occurrences are left to find, at these places, where so many cues came before and the last of them stands there
+unfoldable pub passing : ℕ → ℕ → List ℕ → List ℕ → Passing
+unfolding faultOf
+passing before last [] places = record { refusal = 0; places = [] }
+passing before last (l ∷ left) [] = record { refusal = 0; places = [] }
+passing before last (l ∷ left) (p ∷ places) =
+    let rest : Passing = passing (suc before) p left places in
+    let fault : ℕ = faultOf (eqb l 0) before last p in
+    cond (eqb fault 0) (record { refusal = rest .refusal; places = p ∷ rest .places }) (record { refusal = fault; places = [] })
+
+pub record Put (text : List ℕ) (index : ℕ) (left places : List ℕ) (known : ℕ) (entries : List ℕ) (r : EntriesPut) (entries′ : List ℕ) : Type 0 where
+  pub refused : r .refusal ≡ passing index known left places .refusal
+  pub counted : r .count ≡ length (passing index known left places .places)
+  pub entered : entries′ ≡ receivedFrom (3 * index) entries (entriesOf text (passing index known left places .places))
+  pub last : r .known ≡ lastOf known (passing index known left places .places)
   pub spot : r .spot ≡ lineColumn text (r .known)
 
 -- ---- a group resolved
@@ -132,16 +143,22 @@ pub record Begun (page : ℕ) (book : List ℕ) (index rest place : ℕ) (text c
   pub room : 65535 ≤ length scratch
   pub spot : told ≡ lineColumn text known
 
--- the cues before the first one that is missing, and their entries
-pub record Grouped (page : ℕ) (book : List ℕ) (index place : ℕ) (text scratch entries : List ℕ) (r : GroupResolved) (scratch′ entries′ : List ℕ) : Type 0 where
-  pub next : NextGroup book index place (r .count) (r .end)
-  pub most : r .put ≤ r .count
-  pub there : AllThere (foldOn page) text (take (r .put) (next .group))
-  pub missing : (before : List Cue) (c : Cue) (later : List Cue) → next .group ≡ before ++ c ∷ later → r .put ≡ length before → isThere (foldOn page) text c ≡ false
-  pub entered : entries′ ≡ receivedFrom (3 * index) entries (entriesOf text (placesOf (foldOn page) text (take (r .put) (next .group))))
+-- the places of the cues before the first one with a fault, and their entries. By them the group is judged, whatever places were found before: as many as the index says, and the last of them the known
+-- one
+pub record Grouped (page : ℕ) (book : List ℕ) (index place : ℕ) (text scratch entries : List ℕ) (known : ℕ) (r : GroupResolved) (scratch′ entries′ : List ℕ) : Type 0 where
+  pub count : ℕ
+  pub next : NextGroup book index place count (r .end)
+  pub places : List ℕ
+  pub put : r .put ≡ length places
+  pub judged : (found : List ℕ) → index ≡ length found → known ≡ placeBefore found
+      → judge (foldOn page) text found (numberedFrom index (next .group)) ≡ record { refusal = r .refusal; number = index + r .put; places = found ++ places }
+  pub whole : r .refusal ≡ 0 → r .put ≡ count
+  pub stopped : (r .refusal ≡ 0 → ⊥) → r .put < count
+  pub entered : entries′ ≡ receivedFrom (3 * index) entries (entriesOf text places)
+  pub last : r .known ≡ lastOf known places
+  pub spot : r .spot ≡ lineColumn text (r .known)
   pub reads : r .reads ≡ length text
   pub emptied : scratch′ ≡ replicate (length scratch) 0
-  pub spot : r .spot ≡ lineColumn text (r .known)
 
 -- ---- all groups
 

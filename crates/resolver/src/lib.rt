@@ -1,11 +1,11 @@
-// The resolver (document 01, "Cue book, folding, lines"; document 02, (iv) and (vi)): from the cues of a book to place, line and column, as `outcome` defines it. The cues are resolved in groups, and each
+// The resolver (document 01, "Cue book, folding, lines"; document 02, (iv), (vi) and (vii)): from the cues of a book to place, line and column, as `outcome` defines it. The cues are resolved in groups, and each
 // group walks the folded text once.
 // It depends on `cue_fields`, `cues` and `cue_book` for the cues, on `fold`, on `phrases` and `automaton` for the walk of a group, on `line_column` for the line rule, on `tables` to clear the scratch,
 // and on `matching` for the laws of lent lists and of occurrences.
 use cues::CueAnswer;
 use line_column::LineColumn;
 ghost use mathlib.Core.Path.{_≡_};
-ghost use Prim.Native.Nat.{_+_, _*_, _≤_, min};
+ghost use Prim.Native.Nat.{_+_, _≤_, min};
 ghost use lib.ListN.{length, set};
 ghost use Rattle.line_column.specs.LineColumn.{lineColumn};
 ghost use Rattle.resolver.specs.Resolver.{Resolved};
@@ -32,19 +32,20 @@ struct GroupFound {
     reads: usize,
 }
 
-// A group's entries as they were put: for how many cues, and the last place with its line and column.
+// A group's entries as they were put: the first fault or 0, for how many cues they were put, and the last place with its line and column.
 struct EntriesPut {
+    refusal: u32,
     count: usize,
     known: u32,
     spot: LineColumn,
 }
 
-// A group that was resolved: how many cues it has, the place after them in the book, the letters of the text that were read, for how many cues entries were put, and the last place with its line and
+// A group that was resolved: the place after its cues in the book, the letters of the text that were read, the first fault or 0, for how many cues entries were put, and the last place with its line and
 // column.
 struct GroupResolved {
-    count: usize,
     end: usize,
     reads: usize,
+    refusal: u32,
     put: usize,
     known: u32,
     spot: LineColumn,
@@ -168,43 +169,47 @@ fn put_entries(
     spot
 }
 
-// Puts the entries of a group's cues, up to the first one that was not found: one with occurrences missing.
+// Puts the entries of a group's cues, the first of them with that index, up to the first one with a fault: one with occurrences missing, or whose place is not above that of the cue before it.
 fn put_group(
     entries: &mut [u32],
-    at: usize,
+    index: usize,
     text: &[u8],
     left: &[u32],
     places: &[u32],
     known: u32,
     told: LineColumn,
 ) -> EntriesPut
-    requires { ⌜ (at + 3 * length (now left) ≤ 3000) × ((length (now left) ≡ length (now places)) × ((length (now text) ≤ 32768) × (told ≡ lineColumn (now text) known))) ⌝ }
-    ensures { λ r. ⌜ Put (now (text .entry)) at (now (left .entry)) (now (places .entry)) (now (entries .entry)) r (now (entries .exit)) ⌝ }
+    requires { ⌜ (index + length (now left) ≤ 999) × ((length (now left) ≡ length (now places)) × ((length (now text) ≤ 32768) × (told ≡ lineColumn (now text) known))) ⌝ }
+    ensures { λ r. ⌜ Put (now (text .entry)) index (now (left .entry)) (now (places .entry)) known (now (entries .entry)) r (now (entries .exit)) ⌝ }
 {
     let mut last = known;
     let mut spot = told;
     let mut count = 0;
     while count < left.len() {
-        if left[count] != 0 {
+        let before = index + count;
+        let place = places[count];
+        let refusal = outcome::cue_refused(left[count] == 0, before, last, place);
+        if refusal != 0 {
             return EntriesPut {
+                refusal,
                 count,
                 known: last,
                 spot,
             };
         }
-        let place = places[count];
-        spot = put_entries(entries, at + 3 * count, text, place, last, spot);
+        spot = put_entries(entries, 3 * before, text, place, last, spot);
         last = place;
         count += 1;
     }
     EntriesPut {
+        refusal: 0,
         count,
         known: last,
         spot,
     }
 }
 
-// Resolves the next group, up to the first of its cues whose occurrence does not exist.
+// Resolves the next group, up to the first of its cues with a fault.
 fn resolve_group(
     page: u32,
     book: &[u8],
@@ -219,7 +224,7 @@ fn resolve_group(
     told: LineColumn,
 ) -> GroupResolved
     requires { ⌜ Begun page (now book) index rest place (now text) (now copy) (now scratch) known told ⌝ }
-    ensures { λ r. ⌜ Grouped page (now (book .entry)) index place (now (text .entry)) (now (scratch .entry)) (now (entries .entry)) r (now (scratch .exit)) (now (entries .exit)) ⌝ }
+    ensures { λ r. ⌜ Grouped page (now (book .entry)) index place (now (text .entry)) (now (scratch .entry)) (now (entries .entry)) known r (now (scratch .exit)) (now (entries .exit)) ⌝ }
 {
     let mut left = [0; 64];
     let mut places = [0; 64];
@@ -237,7 +242,7 @@ fn resolve_group(
     let count = group.count;
     let put = put_group(
         entries,
-        3 * index,
+        index,
         text,
         &left[..count],
         &places[..count],
@@ -246,16 +251,16 @@ fn resolve_group(
     );
     let spot = put.spot;
     GroupResolved {
-        count,
         end: group.end,
         reads: group.reads,
+        refusal: put.refusal,
         put: put.count,
         known: put.known,
         spot,
     }
 }
 
-// Resolves group by group, reading the book's cues once more, up to the first cue whose occurrence does not exist.
+// Resolves group by group, reading the book's cues once more, up to the first cue with a fault.
 fn resolve_groups(
     page: u32,
     book: &[u8],
@@ -289,11 +294,11 @@ fn resolve_groups(
         );
         let walked = reads + g.reads;
         index += g.put;
-        if g.put < g.count {
+        if g.refusal != 0 {
             let number = index as u32;
             let total = walked as u32;
             return Resolving {
-                refusal: 12,
+                refusal: g.refusal,
                 number,
                 reads: total,
             };

@@ -56,9 +56,6 @@ find-group-requires c κs =
       places-room = omega arith;
     }
 
-mul-put-group : tie.Need-mul-put-group
-mul-put-group c = search needs
-
 array-share-prefix-left : tie.Need-array-share-prefix-left
 array-share-prefix-left c = left-room (found c)
 
@@ -97,7 +94,6 @@ resolve-group-spec =
     slice-aggregate-find-group
     slice-aggregate-find-group-2
     find-group-requires
-    mul-put-group
     array-share-prefix-left
     slice-aggregate-put-group
     array-share-prefix-places

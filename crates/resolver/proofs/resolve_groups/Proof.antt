@@ -9,13 +9,13 @@ use Rattle.cue_book.specs.Reading.{readBook, cuesIn}
 use Rattle.line_column.specs.LineColumn.{lineColumn}
 use Rattle.line_column.proofs.Lines.{line-first}
 use Rattle.outcome.specs.Outcome.{entriesOf}
-use Rattle.resolver.proofs.Walking.{Along, along-first, along-rest, along-few, along-end, put-inside, along-next, along-missing}
+use Rattle.resolver.proofs.Walking.{Along, along-first, along-rest, along-few, along-end, some-cue, put-few, along-next, along-stop}
 use Rattle.resolver.proofs.resolve_groups.Statement.{statement}
 use Rattle.resolver.proofs.resolve_groups.Tie as tie
 
 abbrev Inv-loop : tie.InvT-loop
 Inv-loop page book cues text copy scratch₀ entries₀ index₀ place₀ reads₀ known₀ spot₀ scratch entries index place reads known spot =
-    Along page book text (cuesIn (readBook book)) entries₀ index place reads entries
+    Along page book text (cuesIn (readBook book)) entries₀ index place reads known entries
     × ((length scratch ≡ length scratch₀) × ((1 ≤ index → scratch ≡ replicate (length scratch₀) 0) × (spot ≡ lineColumn text known)))
 
 abbrev μ-loop : tie.MeasureT-loop
@@ -33,7 +33,7 @@ abbrev resolved : tie.After-struct-known Inv-loop μ-loop → tie.After-resolve-
 resolved s = s .before .before .before .before .before
 
 module _ (l : tie.At-loop Inv-loop μ-loop) where
-  along : let a = start l .args in Along (a .page) (a .book .now) (a .text .now) (cuesIn (readBook (a .book .now))) (a .entries .now) (l .loop .index) (l .loop .place) (l .loop .reads) (l .loop .entries)
+  along : let a = start l .args in Along (a .page) (a .book .now) (a .text .now) (cuesIn (readBook (a .book .now))) (a .entries .now) (l .loop .index) (l .loop .place) (l .loop .reads) (l .loop .known) (l .loop .entries)
   along = l .loop .inv .0
 
   -- the entries keep their length
@@ -94,12 +94,12 @@ add-walked c =
 add-index : tie.Need-add-index Inv-loop μ-loop
 add-index c =
     let k = resolved (c .before) in
-    omega (arith, k .resolve-group .ensures .most, k .resolve-group .ensures .next .left .few)
+    omega (arith, put-few (along (here k)) (k .resolve-group .ensures))
 
 cast-number : tie.Need-cast-number Inv-loop μ-loop
 cast-number c =
     let k = resolved (c .before .before .before) in
-    omega (arith, k .resolve-group .ensures .most, k .resolve-group .ensures .next .left .few)
+    omega (arith, put-few (along (here k)) (k .resolve-group .ensures))
 
 cast-total : tie.Need-cast-total Inv-loop μ-loop
 cast-total c =
@@ -117,18 +117,19 @@ returns : tie.Need-returns Inv-loop μ-loop
 returns c =
     let k = resolved (c .before .before .before) in
     let l = here k in
-    along-missing (along l) (k .resolve-group .ensures) refl (omega (arith, c .if1 .taken)) (emptied k)
+    along-stop (along l) (k .resolve-group .ensures) refl (c .if1 .taken) (emptied k)
 
 loop-less : tie.Need-loop-less Inv-loop μ-loop
 loop-less c =
     let k = resolved (c .before .before .before .before) in
-    omega (arith, turn k .loop-test .taken, put-inside (along (here k)) (k .resolve-group .ensures) .1, c .before .if1 .left)
+    let g = k .resolve-group .ensures in
+    omega (arith, turn k .loop-test .taken, some-cue (along (here k)) g, g .whole (c .before .if1 .left))
 
 loop-again : tie.Need-loop-again Inv-loop μ-loop
 loop-again c =
     let k = resolved (c .before .before .before .before) in
     let l = here k in (
-      along-next (along l) (k .resolve-group .ensures) (omega (arith, c .before .if1 .left)),
+      along-next (along l) (k .resolve-group .ensures) (c .before .if1 .left),
       (scratch-kept k, (λ h. emptied k, k .resolve-group .ensures .spot)),
     )
 
