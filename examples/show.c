@@ -110,10 +110,11 @@ static void note_cues(void)
     }
 }
 
-static libretto_resolving resolve(void)
+/* Resolves the cues of a part of the book. */
+static libretto_resolving resolve(size_t start, size_t end, uint32_t *into, size_t into_len)
 {
-    return libretto_resolve(page, book, book_len, text, text_len, folded_text, sizeof folded_text, scratch, LIBRETTO_SCRATCH_RESOLVER, entries,
-                            sizeof entries / sizeof *entries);
+    return libretto_resolve(page, book + start, end - start, text, text_len, folded_text, sizeof folded_text, scratch, LIBRETTO_SCRATCH_RESOLVER,
+                            into, into_len);
 }
 
 /* Lists all places of a cue's folded phrase in the folded text, which the resolver has left in its copy; gives their number. */
@@ -142,23 +143,42 @@ static const char *words(uint32_t refusal)
         return "bytes remain after 999 cues";
     case LIBRETTO_NO_OCCURRENCE:
         return "the cue's occurrence does not exist";
+    case LIBRETTO_NOT_FORWARD:
+        return "the cue does not stand behind the cue before it";
     default:
         return "the lent memory is too short";
     }
 }
 
-/* Tells why the text, or a cue of the book, was refused, and of a missing occurrence also which one and how many there are. */
+/* Tells where a cue stands that does not stand behind the one before it, and where that one does, whose entries are written. By itself the cue is
+ * resolved, since it has an occurrence. */
+static void tell_not_forward(uint32_t number)
+{
+    const uint32_t *before = entries + (number - 1) * LIBRETTO_CUE_ENTRIES;
+    uint32_t at[LIBRETTO_CUE_ENTRIES];
+    libretto_resolving alone = resolve(cues[number - 1].end, cues[number].end, at, LIBRETTO_CUE_ENTRIES);
+
+    assert(alone.refusal == LIBRETTO_OK);
+    fprintf(stderr, " is at line %u, column %u, cue %u at line %u, column %u", (unsigned)at[1], (unsigned)at[2], (unsigned)(number - 1),
+            (unsigned)before[1], (unsigned)before[2]);
+}
+
+/* Tells why the text, or a cue of the book, was refused. Of a cue that has been looked for it tells also which occurrence that was, and how many
+ * there are, or where it stands. */
 static int refuse(const char *text_path, const char *book_path, uint32_t refusal, uint32_t number)
 {
     if (refusal == LIBRETTO_LONG_TEXT)
         fprintf(stderr, "%s: %s", text_path, words(refusal));
     else
         fprintf(stderr, "%s: cue %u: %s", book_path, (unsigned)number, words(refusal));
-    if (refusal == LIBRETTO_NO_OCCURRENCE) {
+    if (refusal == LIBRETTO_NO_OCCURRENCE || refusal == LIBRETTO_NOT_FORWARD) {
         const libretto_cue *cue = &cues[number];
         fprintf(stderr, ": ordinal %u of ", (unsigned)cue->ordinal);
         print_phrase(stderr, cue);
-        fprintf(stderr, ", total %u", (unsigned)list_refrain(cue));
+        if (refusal == LIBRETTO_NOT_FORWARD)
+            tell_not_forward(number);
+        else
+            fprintf(stderr, ", total %u", (unsigned)list_refrain(cue));
     }
     putc('\n', stderr);
     return REFUSED;
@@ -224,7 +244,7 @@ int main(int argc, char **argv)
     if (read.refusal != LIBRETTO_OK)
         return refuse(text_path, book_path, read.refusal, read.number);
     note_cues();
-    libretto_resolving resolved = resolve();
+    libretto_resolving resolved = resolve(0, book_len, entries, sizeof entries / sizeof *entries);
     if (resolved.refusal != LIBRETTO_OK)
         return refuse(text_path, book_path, resolved.refusal, resolved.number);
 

@@ -1,8 +1,8 @@
 /* libretto.h: exact matching over bytes, cue books, and the places of their cues, with every result and every lent entry proved.
  *
  * Every function is reentrant, keeps nothing between calls, allocates nothing, and may be called on any input: what the tables below do not
- * accept is refused, with nothing written except where the resolver finds no occurrence (12). Memory is lent by the caller and is left exactly as
- * stated. Link with liblibretto.a.
+ * accept is refused, with nothing written except where the resolver refuses a cue for its occurrence (12) or its place (15). Memory is lent by the
+ * caller and is left exactly as stated. Link with liblibretto.a.
  * A pointer whose length is 0 is never read or written and may be any non-null pointer.
  */
 #ifndef LIBRETTO_H
@@ -61,8 +61,8 @@ enum libretto_page {
     LIBRETTO_PAGE_15 = 15 /* ISO 8859-15 */
 };
 
-/* Why a call was refused. They are tested in this order, and the first that applies is returned; only 7 to 9 come as the book is read, the page (14)
- * is tested after 5 and before 6, and libretto_relist tests the new text's length (4) last. */
+/* Why a call was refused. They are tested in this order, and the first that applies is returned; only 7 to 9 come as the book is read, 12 and 15 are
+ * tested cue by cue, the page (14) is tested after 5 and before 6, and libretto_relist tests the new text's length (4) last. */
 enum libretto_refusal {
     LIBRETTO_OK = 0,             /* not refused */
     LIBRETTO_UNKNOWN_METHOD = 1, /* the method is above 7 */
@@ -79,6 +79,7 @@ enum libretto_refusal {
     LIBRETTO_NO_OCCURRENCE = 12, /* a cue's occurrence does not exist */
     LIBRETTO_LONG_CUE = 13,      /* a cue to be written is longer than its buffer */
     LIBRETTO_UNKNOWN_PAGE = 14,  /* the page is neither 1 nor 15 */
+    LIBRETTO_NOT_FORWARD = 15,   /* a cue's place is not above that of the cue before it */
     LIBRETTO_BAD_STRETCH = 17,   /* a stretch ends before it starts, or past the text */
     LIBRETTO_BAD_LIST = 18       /* a list does not strictly rise, or holds a place where the phrase would pass the text's end */
 };
@@ -225,14 +226,14 @@ libretto_answer libretto_write_cue(uint8_t *buffer, size_t buffer_len, const uin
                                    const uint8_t *title, size_t title_len);
 
 /* What the resolver gives back: a refusal or 0, the number of cues or the index of the refused one, and the letters of the text read; a refused call
- * gives 0 for the last, except where a cue's occurrence does not exist (12). */
+ * gives 0 for the last, except where a cue's occurrence does not exist (12) or its place is not above that of the cue before it (15). */
 typedef struct {
     uint32_t refusal, number, reads;
 } libretto_resolving;
 
 /* Finds the place of each cue of a book in the text: that of the occurrence which the cue's ordinal counts, from 1, of its folded phrase in the
  * folded text, overlapping ones included. Both are folded by the page. A text that was folded by it beforehand gives the same places, lines and
- * columns.
+ * columns. The cues run forward: each place must be above that of the cue before it.
  *
  * The cues are resolved in groups: consecutive cues, as many as fit into 64 cues and 4,096 phrase bytes. The phrases of a group are found together, by
  * one walk over the text that reads each of its letters once. So the reads are text_len times the groups.
@@ -246,9 +247,12 @@ typedef struct {
  *
  * It is refused for a text of more than 32,768 bytes (4), a scratch of fewer than 65,535 entries (5), a page that is neither 1 nor 15 (14), a copy
  * shorter than the text (6), and fewer than 3 entries for each cue (11), all with 0 as the number, in this order; and for a book that is refused as a
- * whole, with the answer of libretto_read_book, which comes between 6 and 11. These give 0 as the reads and leave all as before. If a cue's occurrence
- * does not exist, the answer is 12, the first such cue's index from 0, and text_len times the groups up to this cue's own, which is included: the
- * entries of earlier cues are written, those of this cue and the later ones keep their values, and copy and scratch are as after success.
+ * whole, with the answer of libretto_read_book, which comes between 6 and 11. These give 0 as the reads and leave all as before.
+ *
+ * Then the cues are tested one by one, in the book's order: that the cue's occurrence exists (12), and that its place is above that of the cue before
+ * it (15), which the first cue does not have. At the first cue that fails, the answer is 12 or 15, its index from 0, and text_len times the groups up
+ * to its own, which is included: the entries of earlier cues are written, those of this cue and the later ones keep their values, and copy and
+ * scratch are as after success.
  *
  * Copy, scratch and entries must not overlap each other or the book or the text. The call also works in 2,304 bytes of the stack, and in 256 more by
  * page 15. */

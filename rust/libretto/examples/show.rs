@@ -2,7 +2,7 @@
 //!
 //! It is `examples/show.c` over the safe interface and prints the same to the byte; what the show file holds is told there.
 
-use libretto::{find_all, fold_text, read_book, read_cue, resolve_all, CuePlace, Method, Page, Refusal};
+use libretto::{find_all, fold_text, read_book, read_cue, resolve_all, CuePlace, Method, Page, Refusal, ResolveError};
 use std::env;
 use std::ffi::{OsStr, OsString};
 use std::fmt::Display;
@@ -26,9 +26,10 @@ struct Options {
     as_bytes: bool,
 }
 
-/// A cue as it stands in the book, and its phrase folded.
+/// A cue as it stands in the book, its bytes there, and its phrase folded.
 struct Cue<'a> {
     read: libretto::Cue<'a>,
+    bytes: &'a [u8],
     folded: Vec<u8>,
 }
 
@@ -64,8 +65,8 @@ fn cues(page: Page, book: &[u8]) -> Vec<Cue<'_>> {
     let mut place = 0;
     while place < book.len() {
         let read = read_cue(book, place).expect("the book was read before");
+        cues.push(Cue { read, bytes: &book[place..read.end], folded: fold_all(page, read.phrase) });
         place = read.end;
-        cues.push(Cue { read, folded: fold_all(page, read.phrase) });
     }
     cues
 }
@@ -138,11 +139,40 @@ fn print_refrains(out: &mut impl Write, cues: &[Cue], folded_text: &[u8], option
     Ok(())
 }
 
+/// Tells which occurrence a cue asks for.
+fn tell_occurrence(told: &mut Vec<u8>, cue: &Cue, options: Options) -> io::Result<()> {
+    write!(told, ": ordinal {} of ", cue.read.ordinal)?;
+    print_phrase(told, cue, options)
+}
+
 /// Tells of a missing occurrence which one it is and how many there are.
 fn tell_missing(told: &mut Vec<u8>, cue: &Cue, folded_text: &[u8], options: Options) -> io::Result<()> {
-    write!(told, ": ordinal {} of ", cue.read.ordinal)?;
-    print_phrase(told, cue, options)?;
+    tell_occurrence(told, cue, options)?;
     write!(told, ", total {}", refrain(cue, folded_text).len())
+}
+
+/// Tells where a cue stands that does not stand behind the one before it, and where that one does. Each by itself is resolved, since both have an
+/// occurrence.
+fn tell_not_forward(told: &mut Vec<u8>, cues: &[Cue], number: usize, text: &[u8], options: Options) -> io::Result<()> {
+    let alone = |cue: &Cue| {
+        let places = resolve_all(options.page, cue.bytes, text).expect("the cue was found before");
+        places[0]
+    };
+    let (at, before) = (alone(&cues[number]), alone(&cues[number - 1]));
+    tell_occurrence(told, &cues[number], options)?;
+    write!(told, " is at line {}, column {}, cue {} at line {}, column {}", at.line, at.column, number - 1, before.line, before.column)
+}
+
+/// What the resolver refused, with all that can be told of it.
+fn refused(text_path: &Path, book_path: &Path, error: ResolveError, cues: &[Cue], text: &[u8], options: Options) -> Failure {
+    let mut failure = Failure::refused(if error.refusal == Refusal::LongText { text_path } else { book_path }, error);
+    let written = match (error.refusal, error.cue) {
+        (Refusal::NoOccurrence, Some(cue)) => tell_missing(&mut failure.told, &cues[cue], &fold_all(options.page, text), options),
+        (Refusal::NotForward, Some(cue)) => tell_not_forward(&mut failure.told, cues, cue, text, options),
+        _ => Ok(()),
+    };
+    written.expect("a vector takes all that is written");
+    failure
 }
 
 fn show(text_path: &Path, book_path: &Path, options: Options) -> Result<(), Failure> {
@@ -151,15 +181,9 @@ fn show(text_path: &Path, book_path: &Path, options: Options) -> Result<(), Fail
 
     read_book(&book).map_err(|refused| Failure::refused(book_path, refused))?;
     let cues = cues(options.page, &book);
-    let folded_text = fold_all(options.page, &text);
-    let places = resolve_all(options.page, &book, &text).map_err(|refused| {
-        let mut failure = Failure::refused(if refused.refusal == Refusal::LongText { text_path } else { book_path }, refused);
-        if let (Refusal::NoOccurrence, Some(cue)) = (refused.refusal, refused.cue) {
-            tell_missing(&mut failure.told, &cues[cue], &folded_text, options).expect("a vector takes all that is written");
-        }
-        failure
-    })?;
+    let places = resolve_all(options.page, &book, &text).map_err(|error| refused(text_path, book_path, error, &cues, &text, options))?;
 
+    let folded_text = fold_all(options.page, &text);
     let mut out = BufWriter::new(io::stdout().lock());
     print_cues(&mut out, &cues, &places, options)
         .and_then(|()| writeln!(out))

@@ -8,7 +8,7 @@
 //!
 //! A cue book is 0 to 999 cues, each with a phrase, an ordinal and a title: [`write_cue`] writes one, [`read_cue`] reads one, [`read_book`] tests a
 //! whole book, and [`title`] shows a title where it stands. [`resolve`] finds the place, line and column of each cue in a text, in lent memory too,
-//! and reads the text once for each group of cues; [`resolve_all`] lends the memory itself.
+//! and reads the text once for each group of cues; the cues must run forward through the text. [`resolve_all`] lends the memory itself.
 //!
 //! ```
 //! use libretto::{find, find_all, Finding, Method, Refusal};

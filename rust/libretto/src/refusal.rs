@@ -4,7 +4,8 @@ use std::error::Error;
 use std::fmt;
 
 /// Why a call was refused. The library tests in the order of the numbers, and the first that applies is returned; only 7 to 9 come as a book is
-/// read, [`resolve`](crate::resolve) tests the page (14) after 5 and before 6, and [`relist`](crate::relist) tests the new text's length last.
+/// read, [`resolve`](crate::resolve) tests the page (14) after 5 and before 6, and 12 and 15 cue by cue, and [`relist`](crate::relist) tests the new
+/// text's length last.
 #[derive(Clone, Copy, Debug, PartialEq, Eq, Hash)]
 #[repr(u32)]
 pub enum Refusal {
@@ -36,6 +37,8 @@ pub enum Refusal {
     LongCue = 13,
     /// The page is neither 1 nor 15. No call with a [`Page`](crate::Page) meets this.
     UnknownPage = 14,
+    /// A cue's place is not above that of the cue before it.
+    NotForward = 15,
     /// A stretch ends before it starts, or past the text.
     BadStretch = 17,
     /// A list does not strictly rise, or holds a place where the phrase would pass the text's end.
@@ -71,6 +74,7 @@ impl Refusal {
             12 => Some(Refusal::NoOccurrence),
             13 => Some(Refusal::LongCue),
             14 => Some(Refusal::UnknownPage),
+            15 => Some(Refusal::NotForward),
             17 => Some(Refusal::BadStretch),
             18 => Some(Refusal::BadList),
             _ => None,
@@ -103,6 +107,7 @@ impl fmt::Display for Refusal {
             Refusal::NoOccurrence => "the cue's occurrence does not exist",
             Refusal::LongCue => "the cue to be written is longer than its buffer",
             Refusal::UnknownPage => "the page is neither 1 nor 15",
+            Refusal::NotForward => "the cue does not stand behind the cue before it",
             Refusal::BadStretch => "the stretch ends before it starts, or past the text",
             Refusal::BadList => "the list does not strictly rise, or holds a place where the phrase would pass the text's end",
         })
@@ -127,12 +132,12 @@ mod tests {
 
     #[test]
     fn refusals_have_their_numbers_and_sentences() {
-        for number in (1..=14).chain(17..=18) {
+        for number in (1..=15).chain(17..=18) {
             let refusal = Refusal::from_number(number).unwrap();
             assert_eq!(refusal.number(), number);
             assert!(!refusal.to_string().is_empty());
         }
-        for number in [0, 15, 16, 19, u32::MAX] {
+        for number in [0, 16, 19, u32::MAX] {
             assert_eq!(Refusal::from_number(number), None);
         }
         assert_eq!(Refusal::UnknownPage.to_string(), "the page is neither 1 nor 15");

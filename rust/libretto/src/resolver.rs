@@ -50,7 +50,7 @@ pub struct RawResolving {
     pub refusal: u32,
     /// The number of cues, or the index of the cue that was refused, or 0 where no cue was.
     pub number: u32,
-    /// The letters of the text that were read; 0 if the call was refused, except with 12, where the group of the refused cue was read too.
+    /// The letters of the text that were read; 0 if the call was refused, except with 12 and 15, where the group of the refused cue was read too.
     pub reads: u32,
 }
 
@@ -76,13 +76,15 @@ impl Error for ResolveError {}
 
 /// Finds the place of each cue of a book in the text and gives the number of cues, with the letters that were read. The place is that of the occurrence
 /// which the cue's ordinal counts, from 1, of its folded phrase in the folded text, overlapping ones included. Both are folded by the page, as
-/// [`fold`](crate::fold) does; a text that was folded by it beforehand gives the same places, lines and columns.
+/// [`fold`](crate::fold) does; a text that was folded by it beforehand gives the same places, lines and columns. The cues run forward: each place must
+/// be above that of the cue before it.
 ///
 /// The cues are resolved in groups: consecutive cues, as many as fit into 64 cues and 4,096 phrase bytes. The phrases of a group are found together, by
 /// one walk over the text that reads each of its letters once.
 ///
-/// A refused call leaves the lent memory as it was, except with [`Refusal::NoOccurrence`]: then the entries of the cues before the refused one are
-/// written, its own and the later ones keep their values, and the rest is as after success.
+/// A refused call leaves the lent memory as it was, except with [`Refusal::NoOccurrence`] and [`Refusal::NotForward`], which are tested cue by cue, in
+/// this order: then the entries of the cues before the refused one are written, its own and the later ones keep their values, and the rest is as after
+/// success.
 ///
 /// ```
 /// use libretto::{resolve, Page, Refusal, ResolveError, ResolverMemory, Resolving, RESOLVER_SCRATCH};
@@ -112,7 +114,7 @@ fn names_a_cue(refusal: Refusal) -> bool {
 }
 
 /// [`resolve`] with a page number, which need not be that of a page, with the refusal's number in place of a [`Refusal`], and with the reads also where
-/// a cue's occurrence does not exist.
+/// a cue's occurrence does not exist or its place is not above that of the cue before it.
 ///
 /// ```
 /// use libretto::{resolve_raw, ResolverMemory, RESOLVER_SCRATCH};
@@ -124,6 +126,13 @@ fn names_a_cue(refusal: Refusal) -> bool {
 /// assert_eq!((raw.refusal, raw.number, raw.reads), (0, 1, 5));
 /// let raw = resolve_raw(1, book, b"la", &mut memory);
 /// assert_eq!((raw.refusal, raw.number, raw.reads), (12, 0, 2));
+///
+/// // The same cue twice: the second does not stand behind the first.
+/// let mut entries = [0; 6];
+/// memory.entries = &mut entries;
+/// let raw = resolve_raw(1, &book.repeat(2), b"la,la", &mut memory);
+/// assert_eq!((raw.refusal, raw.number, raw.reads, &*memory.entries), (15, 1, 5, &[3, 1, 4, 0, 0, 0][..]));
+///
 /// let raw = resolve_raw(2, book, b"la", &mut memory);
 /// assert_eq!((raw.refusal, raw.number, raw.reads), (14, 0, 0));
 /// ```
@@ -168,10 +177,10 @@ mod tests {
 
     #[test]
     fn accents_and_overlaps() {
-        let book = book(&[(b"\xc9T\xe9", 2), (b"\n", 1), (b"x", 1)]);
+        let book = book(&[(b"\n", 1), (b"\xc9T\xe9", 2), (b"x", 1)]);
         let place = |place, line, column| CuePlace { place, line, column };
         for page in Page::ALL {
-            assert_eq!(resolve_all(page, &book, b"\n\xe9t\xc9T\xe9 X"), Ok(vec![place(3, 2, 3), place(0, 1, 1), place(7, 2, 7)]));
+            assert_eq!(resolve_all(page, &book, b"\n\xe9t\xc9T\xe9 X"), Ok(vec![place(0, 1, 1), place(3, 2, 3), place(7, 2, 7)]));
             assert_eq!(resolve_all(page, &[], b"la"), Ok(vec![]));
         }
     }
@@ -191,6 +200,9 @@ mod tests {
         let missing = refused(&book, b"la la");
         assert_eq!(missing, ResolveError { refusal: Refusal::NoOccurrence, cue: Some(1) });
         assert_eq!(missing.to_string(), "cue 1: the cue's occurrence does not exist");
+        let not_forward = refused(&[&book[..], &book].concat(), b"la la la");
+        assert_eq!(not_forward, ResolveError { refusal: Refusal::NotForward, cue: Some(2) });
+        assert_eq!(not_forward.to_string(), "cue 2: the cue does not stand behind the cue before it");
         let cut = refused(&book[..book.len() - 1], b"la la la");
         assert_eq!(cut, ResolveError { refusal: Refusal::CutField, cue: Some(1) });
         let long = refused(&book, &[b'a'; TEXT_MAX + 1]);
@@ -214,21 +226,26 @@ mod tests {
 
     #[test]
     fn reads_count_the_letters_for_each_group() {
-        let reads = |cues: usize, text: &[u8]| {
-            let book = book(&vec![(&b"la"[..], 1); cues]);
-            let (mut copy, mut scratch, mut entries) = (vec![7; text.len()], vec![7; RESOLVER_SCRATCH], vec![7; CUE_ENTRIES * cues]);
-            let raw = resolve_raw(1, &book, text, &mut ResolverMemory { copy: &mut copy, scratch: &mut scratch, entries: &mut entries });
+        // So many cues count on through the text, and then these ones follow.
+        let reads = |cues: u32, more: &[u32], text: &[u8]| {
+            let cues: Vec<(&[u8], u32)> = (1..=cues).chain(more.iter().copied()).map(|ordinal| (&b"la"[..], ordinal)).collect();
+            let (mut copy, mut scratch, mut entries) = (vec![7; text.len()], vec![7; RESOLVER_SCRATCH], vec![7; CUE_ENTRIES * cues.len()]);
+            let raw = resolve_raw(1, &book(&cues), text, &mut ResolverMemory { copy: &mut copy, scratch: &mut scratch, entries: &mut entries });
             (raw.refusal, raw.number, raw.reads)
         };
-        assert_eq!([0, 1, 64, 65, 129].map(|cues| reads(cues, b"tra la").2), [0, 6, 6, 12, 18]);
-        assert_eq!(reads(65, b"tra"), (12, 0, 3));
+        let text = b"la".repeat(129);
+        assert_eq!([0, 1, 64, 65, 129].map(|cues| reads(cues, &[], &text)), [(0, 0, 0), (0, 1, 258), (0, 64, 258), (0, 65, 516), (0, 129, 774)]);
+        assert_eq!(reads(65, &[], b"tra"), (12, 0, 3));
+        // The refused cue is the last of a group or the first of the next one, and others follow it.
+        assert_eq!([63, 64].map(|cues| reads(cues, &[130, 129], &text)), [(12, 63, 258), (12, 64, 516)]);
+        assert_eq!([63, 64].map(|cues| reads(cues, &[cues, 129], &text)), [(15, 63, 258), (15, 64, 516)]);
     }
 
     #[test]
     fn refusals_that_name_a_cue() {
-        for number in [4, 5, 14, 6, 7, 8, 9, 10, 11, 12] {
+        for number in [4, 5, 14, 6, 7, 8, 9, 10, 11, 12, 15] {
             let refusal = Refusal::from_number(number).unwrap();
-            assert_eq!(names_a_cue(refusal), [7, 8, 9, 10, 12].contains(&number), "{refusal}");
+            assert_eq!(names_a_cue(refusal), [7, 8, 9, 10, 12, 15].contains(&number), "{refusal}");
         }
     }
 }

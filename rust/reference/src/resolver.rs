@@ -1,5 +1,5 @@
 //! Document 01, "Cue book, folding, lines": the resolver, and "What a refused call hands back", rows 4 to 12. Document 02 (i): the line rule;
-//! (iv): the page; (vi): the groups, the reads, and one scratch.
+//! (iv): the page; (vi): the groups, the reads, and one scratch; (vii): the cues run forward.
 
 use crate::{cues, fold, Cue};
 use std::ops::Range;
@@ -7,30 +7,17 @@ use std::ops::Range;
 /// The scratch entries that the library states it needs; document 02 (vi) leaves their number to it.
 const SCRATCH: usize = 65_535;
 
+/// A page's rule for a letter.
+type Rule = fn(u8) -> u8;
+
 /// 0, the number of cues and the reads, or the refusal's number with a cue's index and the reads; and what the lent memory holds afterwards.
 pub fn resolve(page: u32, book: &[u8], text: &[u8], copy: &mut [u8], scratch: &mut [u16], entries: &mut [u32]) -> (u32, u32, u32) {
-    // The refusals 4 and 5, then 14, then 6, then those of the whole book, then 11; nothing is written, and nothing is read.
-    if text.len() > 32_768 {
-        return (4, 0, 0);
-    }
-    if scratch.len() < SCRATCH {
-        return (5, 0, 0);
-    }
-    let Some(rule) = fold::rule(page) else {
-        return (14, 0, 0);
-    };
-    if copy.len() < text.len() {
-        return (6, 0, 0);
-    }
-    let cues = match cues(book) {
-        Ok(cues) => cues,
+    let (rule, cues) = match accepted(page, book, text.len(), copy.len(), scratch.len(), entries.len()) {
+        Ok(accepted) => accepted,
         Err((refusal, cue)) => return (refusal, cue, 0),
     };
-    if entries.len() < 3 * cues.len() {
-        return (11, 0, 0);
-    }
 
-    // The copy's first n bytes are the folded text, and the scratch is 0 throughout, whether a cue meets 12 or not.
+    // The copy's first n bytes are the folded text, and the scratch is 0 throughout, whether a cue meets 12 or 15 or neither.
     let fold_all = |letters: &[u8]| letters.iter().map(|&letter| rule(letter)).collect::<Vec<u8>>();
     let folded = fold_all(text);
     copy[..text.len()].copy_from_slice(&folded);
@@ -39,16 +26,50 @@ pub fn resolve(page: u32, book: &[u8], text: &[u8], copy: &mut [u8], scratch: &m
     let (endings, groups) = (endings(text), groups(&cues));
     // n times the groups walked.
     let reads = |walked: usize| (text.len() * walked) as u32;
+    let walked_up_to = |index: usize| groups.iter().filter(|group| group.start <= index).count();
+    let mut before = None;
     for (index, cue) in cues.iter().enumerate() {
-        // The entries of earlier cues stay written; those of this cue and the later ones keep their values. The group of this cue is included.
-        let Some(place) = occurrence(&fold_all(&book[cue.phrase.clone()]), &folded, cue.ordinal) else {
-            let walked = groups.iter().filter(|group| group.start <= index).count();
-            return (12, index as u32, reads(walked));
+        let found = occurrence(&fold_all(&book[cue.phrase.clone()]), &folded, cue.ordinal);
+        // Cue by cue 12 and then 15. The entries of earlier cues stay written; those of this cue and the later ones keep their values. The group of this
+        // cue is included.
+        let place = match forward(before, found) {
+            Ok(place) => place,
+            Err(refusal) => return (refusal, index as u32, reads(walked_up_to(index))),
         };
         let (line, column) = line_and_column(&endings, place);
         entries[3 * index..3 * index + 3].copy_from_slice(&[place, line, column].map(|number| number as u32));
+        before = Some(place);
     }
     (0, cues.len() as u32, reads(groups.len()))
+}
+
+/// The page's rule and the book's cues; or the refusals 4 and 5, then 14, then 6, then those of the whole book, then 11, for which nothing is written
+/// and nothing is read.
+fn accepted(page: u32, book: &[u8], n: usize, copy: usize, scratch: usize, entries: usize) -> Result<(Rule, Vec<Cue>), (u32, u32)> {
+    if n > 32_768 {
+        return Err((4, 0));
+    }
+    if scratch < SCRATCH {
+        return Err((5, 0));
+    }
+    let rule = fold::rule(page).ok_or((14, 0))?;
+    if copy < n {
+        return Err((6, 0));
+    }
+    let cues = cues(book)?;
+    if entries < 3 * cues.len() {
+        return Err((11, 0));
+    }
+    Ok((rule, cues))
+}
+
+/// The place of a cue, if it was found and is above that of the cue before it; the first cue has none before it.
+fn forward(before: Option<usize>, found: Option<usize>) -> Result<usize, u32> {
+    match (before, found) {
+        (_, None) => Err(12),
+        (Some(before), Some(place)) if place <= before => Err(15),
+        (_, Some(place)) => Ok(place),
+    }
 }
 
 /// The groups of the cues, each by the indices of its cues: consecutive cues, as many as fit into 64 cues and 4,096 phrase bytes.

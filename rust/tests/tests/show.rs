@@ -4,7 +4,7 @@
 use libretto_tests::books::{book, Cue, CUES};
 use libretto_tests::pages::{letters, sign, PAGES};
 use libretto_tests::programs::{c_example, repository, rust_example};
-use libretto_tests::verses::{self, places};
+use libretto_tests::verses::{self, place_of, places};
 use libretto_tests::Random;
 use std::fs::{self, File};
 use std::path::{Path, PathBuf};
@@ -17,6 +17,10 @@ const REFRAINS: &str = "\ntotal  phrase, and below it its places\n";
 
 const SHOW_USAGE: &str = "usage: show [--page 1|15] [--bytes] TEXT BOOK\n";
 const BOOK_USAGE: &str = "usage: book [--page 1|15] [--bytes] < TABLE > BOOK\n";
+
+/// What is told of a cue that was looked for.
+const MISSING: &str = "the cue's occurrence does not exist";
+const NOT_FORWARD: &str = "the cue does not stand behind the cue before it";
 
 /// The options that name a page. Page 1 need not be named.
 fn of_page(page: u32) -> [&'static str; 2] {
@@ -157,7 +161,7 @@ fn line_and_column(text: &[u8], place: usize) -> (usize, usize) {
 fn show_file(page: u32, text: &[u8], cues: &[Cue]) -> String {
     let mut file = HEAD.to_string();
     for (index, cue) in cues.iter().enumerate() {
-        let place = places(page, &cue.phrase, text)[usize::from(cue.ordinal) - 1];
+        let place = place_of(page, cue, text).expect("the cue stands in the text");
         let (line, column) = line_and_column(text, place);
         let row = format!("{index:3}  {place:5}  {line:5}  {column:6}  {}", shown(page, &cue.title));
         file += &format!("{}\n", row.trim_end());
@@ -263,18 +267,57 @@ fn random_verses() {
         let (page, alphabet) = (PAGES[round % 2], verses::ALPHABETS[round % 7]);
         let length = random.between(1, 300);
         let text = verses::verse(page, alphabet, length, &mut random);
-        let cues: Vec<Cue> = (0..random.between(0, 12)).map(|_| verses::standing(page, &text, 5, &mut random)).collect();
+        let count = random.between(0, 12.min(length));
+        let cues = verses::rising(page, &text, count, 5, &mut random);
         desk.show_by(&of_page(page), &text, &book(&cues)).is(0, show_file(page, &text, &cues).as_bytes(), "");
 
+        let refused = |cue: &Cue| desk.show_by(&of_page(page), &text, &book(&[&cues[..], slice::from_ref(cue)].concat()));
+        let told = |cue: &Cue, why: &str| format!("book: cue {count}: {why}: ordinal {} of \"{}\"", cue.ordinal, shown(page, &cue.phrase));
         let missing = verses::missing(page, alphabet, &text, &mut random);
         let total = verses::total(page, &missing.phrase, &text);
-        desk.show_by(&of_page(page), &text, &book(&[&cues[..], slice::from_ref(&missing)].concat())).is_refusal(&format!(
-            "book: cue {}: the cue's occurrence does not exist: ordinal {} of \"{}\", total {total}\n",
-            cues.len(),
-            missing.ordinal,
-            shown(page, &missing.phrase)
+        refused(&missing).is_refusal(&format!("{}, total {total}\n", told(&missing, MISSING)));
+
+        let Some(before) = cues.last().and_then(|last| place_of(page, last, &text)) else {
+            continue;
+        };
+        let backward = verses::not_behind(page, &text, before, 5, &mut random);
+        let at = place_of(page, &backward, &text).expect("the cue stands in the text");
+        let [(line, column), (line_before, column_before)] = [at, before].map(|place| line_and_column(&text, place));
+        refused(&backward).is_refusal(&format!(
+            "{} is at line {line}, column {column}, cue {} at line {line_before}, column {column_before}\n",
+            told(&backward, NOT_FORWARD),
+            count - 1
         ));
     }
+}
+
+/// Cues of the aria and of the song in an order in which they do not come, and two at one place.
+#[test]
+fn cues_that_do_not_run_forward() {
+    let desk = Desk::new("forward");
+    let cue = |page, phrase, ordinal| Cue::new(&letters(page, phrase), ordinal, b"");
+    let aria = example("aria.txt");
+    let cases = [
+        ([("Torna, torna", 1), ("ma la barca", 1)], "ordinal 1 of \"ma la barca\" is at line 7, column 1, cue 0 at line 9, column 1"),
+        ([("Torna, torna", 1), ("TORNA,", 1)], "ordinal 1 of \"TORNA,\" is at line 9, column 1, cue 0 at line 9, column 1"),
+        ([("la la la", 4), ("la la la", 3)], "ordinal 3 of \"la la la\" is at line 26, column 1, cue 0 at line 26, column 4"),
+        ([("torna, torna", 2), ("mia,\ntorna prima", 1)], "ordinal 1 of \"mia,\\ntorna prima\" is at line 9, column 21, cue 0 at line 21, column 1"),
+    ];
+    for (cues, told) in cases {
+        let cues = cues.map(|(phrase, ordinal)| cue(1, phrase, ordinal));
+        desk.show_of(&aria, &book(&cues)).is_refusal(&format!("book: cue 1: {NOT_FORWARD}: {told}\n"));
+        // Behind a cue that runs forward, and before one that is missing, which is not told.
+        let more = [&[cue(1, "già la sera", 1)], &cues[..], &[cue(1, "l'allodola", 1)]].concat();
+        let told = told.replace("cue 0", "cue 1");
+        desk.show_of(&aria, &book(&more)).is_refusal(&format!("book: cue 2: {NOT_FORWARD}: {told}\n"));
+    }
+
+    let song = letters(15, SONG);
+    let cues = [cue(15, "Cœur", 2), cue(15, "chœur", 1)];
+    let told = format!("book: cue 1: {NOT_FORWARD}: ordinal 1 of \"chœur\" is at line 1, column 4, cue 0 at line 3, column 5\n");
+    desk.show_by(&["--page", "15"], &song, &book(&cues)).is_refusal(&told);
+    let as_bytes = desk.show_by(&["--page", "15", "--bytes"], &song, &book(&cues));
+    assert!(as_bytes == Left { status: Some(1), out: vec![], errors: letters(15, &told) }, "{}", as_bytes.told());
 }
 
 #[test]
@@ -293,7 +336,7 @@ fn nothing_to_show() {
 fn limits() {
     let desk = Desk::new("limits");
     let text = [b'a'; 32_769];
-    let longest = [Cue::new(b"A", 32_768, &[b'T'; 200]), Cue::new(&text[..1024], 31_745, b"")];
+    let longest = [Cue::new(&text[..1024], 31_745, b""), Cue::new(b"A", 32_768, &[b'T'; 200])];
     desk.show_of(&text[..32_768], &book(&longest)).is(0, show_file(1, &text[..32_768], &longest).as_bytes(), "");
     desk.show_of(&text, &book(&longest)).is_refusal("text: the text has more than 32,768 bytes\n");
     // The book is read before the text is looked at.
@@ -305,9 +348,10 @@ fn limits() {
     desk.show_of(text.as_bytes(), &book(&cues[..CUES])).is(0, show_file(1, text.as_bytes(), &cues[..CUES]).as_bytes(), "");
     let too_many = "book: cue 999: bytes remain after 999 cues\n";
     desk.show_of(text.as_bytes(), &book(&cues)).is_refusal(too_many);
-    let longest = vec![Cue::new(&[b'a'; 1024], 1, &[b'T'; 200]); CUES];
-    desk.show_of(&[b'a'; 1024], &book(&longest)).is(0, show_file(1, &[b'a'; 1024], &longest).as_bytes(), "");
-    desk.show_of(&[b'a'; 1024], &[&book(&longest)[..], &[1]].concat()).is_refusal(too_many);
+    let text = Random::new(72).word(26, CUES + 1023);
+    let longest: Vec<Cue> = text.windows(1024).map(|phrase| Cue::new(phrase, 1, &[b'T'; 200])).collect();
+    desk.show_of(&text, &book(&longest)).is(0, show_file(1, &text, &longest).as_bytes(), "");
+    desk.show_of(&text, &[&book(&longest)[..], &[1]].concat()).is_refusal(too_many);
 
     let line = |number: &String| format!("1\t{number}\t\n");
     desk.book(&[], numbers[..CUES].iter().map(line).collect::<String>().as_bytes()).is(0, &book(&cues[..CUES]), "");
