@@ -1,6 +1,8 @@
-//! The groups that cues are resolved in, and what a resolve of cues must answer by them.
+//! The groups that cues are resolved in, and what a resolve of cues must come to and answer by them.
 
 use crate::books::{book, Cue};
+use crate::pages::PAGES;
+use crate::verses::{place_of, rising_of_lengths, total, verse, ALPHABETS};
 use crate::{compare_resolve, Lengths, Random};
 use libretto::RawResolving;
 
@@ -21,15 +23,61 @@ pub fn group_numbers(cues: &[Cue]) -> Vec<usize> {
     cues.iter().map(&mut take).collect()
 }
 
-/// The answer where all cues stand in a text of n letters.
-pub fn standing_answer(cues: &[Cue], n: usize) -> RawResolving {
-    let groups = group_numbers(cues).last().copied().unwrap_or(0);
-    RawResolving { refusal: 0, number: cues.len() as u32, reads: (n * groups) as u32 }
+/// What a resolve of cues comes to: all stand in the text and run forward, or the first that does not, by its index.
+#[derive(Clone, Copy, Debug, PartialEq, Eq)]
+pub enum Outcome {
+    Resolved,
+    /// The cue's occurrence does not exist.
+    Missing(usize),
+    /// The cue's place is not above that of the cue before it.
+    Backward(usize),
 }
 
-/// The answer where this cue is the first that does not stand in a text of n letters.
-pub fn missing_answer(cues: &[Cue], missing: usize, n: usize) -> RawResolving {
-    RawResolving { refusal: 12, number: missing as u32, reads: (n * group_numbers(cues)[missing]) as u32 }
+impl Outcome {
+    /// What these cues come to in the text, by brute force.
+    pub fn of(page: u32, cues: &[Cue], text: &[u8]) -> Outcome {
+        Outcome::of_places(&cues.iter().map(|cue| place_of(page, cue, text)).collect::<Vec<_>>())
+    }
+
+    /// What cues at these places come to; a missing one has none.
+    pub fn of_places(places: &[Option<usize>]) -> Outcome {
+        let missing = places.iter().position(Option::is_none).unwrap_or(places.len());
+        // All cues before the missing one have a place.
+        match places[..missing].windows(2).position(|pair| pair[1] <= pair[0]) {
+            Some(before) => Outcome::Backward(before + 1),
+            None if missing < places.len() => Outcome::Missing(missing),
+            None => Outcome::Resolved,
+        }
+    }
+
+    /// The answer of these cues in a text of n letters.
+    pub fn answer(self, cues: &[Cue], n: usize) -> RawResolving {
+        let groups = group_numbers(cues);
+        let refused = |refusal, cue| RawResolving { refusal, number: cue as u32, reads: (n * groups[cue]) as u32 };
+        match self {
+            Outcome::Resolved => RawResolving { refusal: 0, number: cues.len() as u32, reads: (n * groups.last().copied().unwrap_or(0)) as u32 },
+            Outcome::Missing(cue) => refused(12, cue),
+            Outcome::Backward(cue) => refused(15, cue),
+        }
+    }
+}
+
+/// Texts with cues that run forward through them in four groups, by the number of cues and by the bytes, and their pages.
+pub fn books_of_four_groups(random: &mut Random) -> Vec<(u32, Vec<u8>, Vec<Cue>)> {
+    let lengths = [vec![3; 200], [60, 70, 80].repeat(60), [1000, 900, 1024, 1, 500].repeat(4)];
+    let mut book = |(index, lengths): (usize, &Vec<usize>)| {
+        let page = PAGES[index % 2];
+        let text = [verse(page, ALPHABETS[6], 700, random), random.word(4, 1100)].concat();
+        let cues = rising_of_lengths(page, &text, lengths, random);
+        assert_eq!(group_numbers(&cues).last(), Some(&4), "phrases of {lengths:?}");
+        (page, text, cues)
+    };
+    lengths.iter().enumerate().map(&mut book).collect()
+}
+
+/// The cue with the ordinal after its phrase's last occurrence in the text.
+pub fn past_the_last(page: u32, cue: &Cue, text: &[u8]) -> Cue {
+    Cue { ordinal: total(page, &cue.phrase, text) as u16 + 1, ..cue.clone() }
 }
 
 /// Resolves the cues in memory that is just long enough or somewhat longer.
@@ -38,14 +86,27 @@ pub fn resolve(page: u32, cues: &[Cue], text: &[u8], random: &mut Random) -> Raw
     compare_resolve(page, &book(cues), text, lengths, random.next())
 }
 
-/// Resolves cues that all stand in the text.
-pub fn resolve_standing(page: u32, cues: &[Cue], text: &[u8], random: &mut Random) {
+/// Resolves cues that come to this.
+#[track_caller]
+pub fn resolve_to(outcome: Outcome, page: u32, cues: &[Cue], text: &[u8], random: &mut Random) {
     let answer = resolve(page, cues, text, random);
-    assert_eq!(answer, standing_answer(cues, text.len()), "page {page}, {cues:?} in \"{}\"", text.escape_ascii());
+    assert_eq!(answer, outcome.answer(cues, text.len()), "page {page}, {outcome:?}, {cues:?} in \"{}\"", text.escape_ascii());
 }
 
-/// Resolves cues of which this one is the first that does not stand in the text.
+/// Resolves cues that all stand in the text and run forward.
+#[track_caller]
+pub fn resolve_rising(page: u32, cues: &[Cue], text: &[u8], random: &mut Random) {
+    resolve_to(Outcome::Resolved, page, cues, text, random);
+}
+
+/// Resolves cues of which this one is the first fault: it does not stand in the text.
+#[track_caller]
 pub fn resolve_missing(page: u32, cues: &[Cue], missing: usize, text: &[u8], random: &mut Random) {
-    let answer = resolve(page, cues, text, random);
-    assert_eq!(answer, missing_answer(cues, missing, text.len()), "page {page}, {cues:?} in \"{}\"", text.escape_ascii());
+    resolve_to(Outcome::Missing(missing), page, cues, text, random);
+}
+
+/// Resolves cues of which this one is the first fault: its place is not above that of the cue before it.
+#[track_caller]
+pub fn resolve_backward(page: u32, cues: &[Cue], backward: usize, text: &[u8], random: &mut Random) {
+    resolve_to(Outcome::Backward(backward), page, cues, text, random);
 }

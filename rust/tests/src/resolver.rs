@@ -80,7 +80,7 @@ impl Memory {
 
     /// What is wrong with the memory, told without the reference.
     fn kept_and_cleared(&self, raw: RawResolving, held: &Held, faults: &mut Faults) {
-        if raw.refusal == 0 || raw.refusal == 12 {
+        if [0, 12, 15].contains(&raw.refusal) {
             // All entries are joined without a stop at the first, which the compiler does for many of them at a time.
             let joined = self.scratch.left().iter().fold(0, |bits, &entry| bits | entry);
             faults.when(joined != 0, "the scratch is not 0 throughout");

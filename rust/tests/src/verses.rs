@@ -73,14 +73,59 @@ pub fn total(page: u32, phrase: &[u8], text: &[u8]) -> usize {
     places(page, phrase, text).len()
 }
 
-/// A cue that stands in the text, which is not empty: a stretch of up to `longest` letters in any case, with the ordinal of one of its occurrences.
+/// The place of the cue's occurrence in the text, if that exists.
+pub fn place_of(page: u32, cue: &Cue, text: &[u8]) -> Option<usize> {
+    places(page, &cue.phrase, text).get(usize::from(cue.ordinal) - 1).copied()
+}
+
+/// The cue that stands at this place of the text: so many letters in any case, with the ordinal of this occurrence.
+pub fn cue_at(page: u32, text: &[u8], place: usize, length: usize, random: &mut Random) -> Cue {
+    let stretch = &text[place..place + length];
+    let ordinal = total(page, stretch, &text[..place + length]);
+    Cue { phrase: in_any_case(page, stretch, random), ordinal: ordinal as u16, title: random.word(2, length % 4) }
+}
+
+/// A cue that stands in the text, which is not empty: a stretch of up to `longest` letters, at any place.
 pub fn standing(page: u32, text: &[u8], longest: usize, random: &mut Random) -> Cue {
     let length = random.between(1, longest.min(text.len()));
     let start = random.between(0, text.len() - length);
-    let phrase = in_any_case(page, &text[start..start + length], random);
-    let total = total(page, &phrase, text);
-    let ordinal = [1, total, random.between(1, total)][random.below(3)];
-    Cue { phrase, ordinal: ordinal as u16, title: random.word(2, length % 4) }
+    cue_at(page, text, start, length, random)
+}
+
+/// So many of the places below the bound, rising; all in turn where there are no more.
+pub fn rising_places(count: usize, bound: usize, random: &mut Random) -> Vec<usize> {
+    assert!(count <= bound, "{count} places below {bound} cannot rise");
+    let mut places = Vec::new();
+    for place in 0..bound {
+        if random.below(bound - place) < count - places.len() {
+            places.push(place);
+        }
+    }
+    places
+}
+
+/// So many cues that stand in the text and run forward, each a stretch of up to `longest` letters.
+pub fn rising(page: u32, text: &[u8], count: usize, longest: usize, random: &mut Random) -> Vec<Cue> {
+    let places = rising_places(count, text.len(), random);
+    let mut at = |&place: &usize| {
+        let length = random.between(1, longest.min(text.len() - place));
+        cue_at(page, text, place, length, random)
+    };
+    places.iter().map(&mut at).collect()
+}
+
+/// Cues that stand in the text and run forward, with phrases of these lengths.
+pub fn rising_of_lengths(page: u32, text: &[u8], lengths: &[usize], random: &mut Random) -> Vec<Cue> {
+    let longest = lengths.iter().copied().max().unwrap_or(0);
+    let places = rising_places(lengths.len(), text.len() + 1 - longest, random);
+    places.iter().zip(lengths).map(|(&place, &length)| cue_at(page, text, place, length, random)).collect()
+}
+
+/// A cue that stands in the text, but not behind this place: at the place itself, just before it, or anywhere before it.
+pub fn not_behind(page: u32, text: &[u8], place: usize, longest: usize, random: &mut Random) -> Cue {
+    let start = [place, place.saturating_sub(1), random.between(0, place)][random.below(3)];
+    let length = random.between(1, longest.min(text.len() - start));
+    cue_at(page, text, start, length, random)
 }
 
 /// A cue that does not stand in the text: a stretch of it or a random word, with the ordinal after its last occurrence or a larger one, or a phrase

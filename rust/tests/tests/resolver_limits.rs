@@ -1,24 +1,29 @@
-//! The refusals of the resolver, their order, and what a call leaves that was refused. That all but 12 leave everything as before is tested in every
-//! compared call, without the reference.
+//! The refusals of the resolver, their order, and what a call leaves that was refused. That all but 12 and 15 leave everything as before is tested in
+//! every compared call, without the reference.
 
-use libretto::{resolve, resolve_raw, Page, RawResolving, Refusal, ResolveError, ResolverMemory, Resolving, RESOLVER_SCRATCH};
+use libretto::{resolve, resolve_all, resolve_raw, Page, RawResolving, Refusal, ResolveError, ResolverMemory, Resolving, RESOLVER_SCRATCH};
 use libretto_tests::books::{book, Cue, MORE};
 use libretto_tests::pages::{unknown_pages, PAGES};
 use libretto_tests::{compare_resolve, report, Lengths, Random};
 
-/// A book with the answer of its reading, and the first cue that is missing in a text of letters a.
+/// A cue's fault: 12 or 15, and the cue's index.
+type Fault = (u32, u32);
+
+/// A book with the answer of its reading, and the first cue that is at fault in a text of two or more letters a.
 struct Case {
     book: Vec<u8>,
     read: (u32, u32),
-    missing: Option<u32>,
+    fault: Option<Fault>,
 }
 
-/// Books of every kind. In those that are refused the first cue is missing too, and 12 must not be answered instead.
+/// Books of every kind. In those that are refused the first cue is missing too, or the second does not run forward, and 12 or 15 must not be answered
+/// instead.
 fn cases() -> Vec<Case> {
-    let (found, missing) = (Cue::new(b"A", 1, b"No"), Cue::new(b"b", 1, b""));
-    let case = |book, read, missing| Case { book, read, missing };
-    let pair = book(&[missing.clone(), found.clone()]);
-    let second = missing.bytes().len();
+    let [first, second, missing] = [(&b"A"[..], 1), (b"A", 2), (b"b", 1)].map(|(phrase, ordinal)| Cue::new(phrase, ordinal, b"No"));
+    let case = |book, read, fault| Case { book, read, fault };
+    let of = |cues: [&Cue; 2]| book(&cues.map(Cue::clone));
+    let pair = of([&missing, &first]);
+    let start = missing.bytes().len();
     let changed = |place: usize, byte| {
         let mut book = pair.clone();
         book[place] = byte;
@@ -26,22 +31,24 @@ fn cases() -> Vec<Case> {
     };
     vec![
         case(vec![], (0, 0), None),
-        case(book(&[found.clone(), found.clone()]), (0, 2), None),
-        case(pair.clone(), (0, 2), Some(0)),
-        case(book(&[found.clone(), missing.clone()]), (0, 2), Some(1)),
-        case(pair[..pair.len() - 1].to_vec(), (7, 1), Some(0)),
-        case(changed(second, 2), (8, 1), Some(0)),
-        case(changed(second + 1, 5), (9, 1), Some(0)),
-        case(changed(0, 3), (8, 0), Some(0)),
-        case([missing.bytes(), MORE.repeat(998), vec![1]].concat(), (10, 999), Some(0)),
+        case(of([&first, &second]), (0, 2), None),
+        case(pair.clone(), (0, 2), Some((12, 0))),
+        case(of([&first, &missing]), (0, 2), Some((12, 1))),
+        case(of([&first, &first]), (0, 2), Some((15, 1))),
+        case(pair[..pair.len() - 1].to_vec(), (7, 1), Some((12, 0))),
+        case(changed(start, 2), (8, 1), Some((12, 0))),
+        case(changed(start + 1, 5), (9, 1), Some((12, 0))),
+        case(changed(0, 3), (8, 0), Some((12, 0))),
+        case([missing.bytes(), MORE.repeat(998), vec![1]].concat(), (10, 999), Some((12, 0))),
+        case([MORE.repeat(999), vec![1]].concat(), (10, 999), Some((15, 1))),
     ]
 }
 
-/// The answer by the words of document 01, and of document 02, (iv), which puts the page between scratch and copy, and (vi), which counts the reads. All
-/// books that are not refused have one group, and the one without cues has none.
+/// The answer by the words of document 01, and of document 02, (iv), which puts the page between scratch and copy, (vi), which counts the reads, and
+/// (vii), which puts 15 behind 12. All books that are not refused have one group, and the one without cues has none.
 fn due(page: u32, case: &Case, n: usize, lengths: Lengths) -> RawResolving {
     let refused = |refusal: Refusal| RawResolving { refusal: refusal.number(), number: 0, reads: 0 };
-    let missing = |cue| RawResolving { refusal: Refusal::NoOccurrence.number(), number: cue, reads: n as u32 };
+    let at_fault = |(refusal, cue)| RawResolving { refusal, number: cue, reads: n as u32 };
     let (refusal, number) = case.read;
     if n > 32_768 {
         refused(Refusal::LongText)
@@ -56,9 +63,9 @@ fn due(page: u32, case: &Case, n: usize, lengths: Lengths) -> RawResolving {
     } else if lengths.entries < 3 * number as usize {
         refused(Refusal::ShortEntries)
     } else if n == 0 && number > 0 {
-        missing(0)
+        at_fault((12, 0))
     } else {
-        case.missing.map_or(RawResolving { refusal, number, reads: if number == 0 { 0 } else { n as u32 } }, missing)
+        case.fault.map_or(RawResolving { refusal, number, reads: if number == 0 { 0 } else { n as u32 } }, at_fault)
     }
 }
 
@@ -66,11 +73,11 @@ fn due(page: u32, case: &Case, n: usize, lengths: Lengths) -> RawResolving {
 #[test]
 fn every_limit_with_every_other() {
     let mut random = Random::new(61);
-    let mut met = [0; 15];
+    let mut met = [0; 16];
     let unknown = unknown_pages();
     let text = vec![b'a'; 40_000];
     for case in cases() {
-        for n in [0usize, 1, 7, 32_767, 32_768, 32_769, 40_000] {
+        for n in [0usize, 2, 7, 32_767, 32_768, 32_769, 40_000] {
             for copy in [0, n.saturating_sub(1), n, n + 1] {
                 for scratch in [0, 65_534, 65_535, 65_536] {
                     for entries in [0, 3, 5, 6, 7] {
@@ -86,8 +93,8 @@ fn every_limit_with_every_other() {
             }
         }
     }
-    assert!([0, 4, 5, 6, 7, 8, 9, 10, 11, 12, 14].iter().all(|&refusal| met[refusal] > 30), "the calls met too little: {met:?}");
-    report("every_limit_with_every_other", 2 * 9 * 7 * 4 * 4 * 5);
+    assert!([0, 4, 5, 6, 7, 8, 9, 10, 11, 12, 14, 15].iter().all(|&refusal| met[refusal] > 30), "the calls met too little: {met:?}");
+    report("every_limit_with_every_other", 2 * 11 * 7 * 4 * 4 * 5);
 }
 
 /// Every unknown page in calls that meet one other refusal besides: 4 and 5 come before 14, and all others after it. Each of these calls meets its other
@@ -98,22 +105,24 @@ fn unknown_pages_between_scratch_and_copy() {
     let text = vec![b'a'; 32_769];
     let enough = |n| Lengths::enough(n, 2);
     let good = ((0, 2), None);
+    let missing = Some((12, 0));
     let calls = [
         (good, 32_769, enough(32_769), 4),
         (good, 7, Lengths { scratch: 65_534, ..enough(7) }, 5),
         (good, 7, Lengths { copy: 6, ..enough(7) }, 6),
-        (((7, 1), Some(0)), 7, enough(7), 7),
-        (((8, 1), Some(0)), 7, enough(7), 8),
-        (((8, 0), Some(0)), 7, enough(7), 8),
-        (((9, 1), Some(0)), 7, enough(7), 9),
-        (((10, 999), Some(0)), 7, enough(7), 10),
+        (((7, 1), missing), 7, enough(7), 7),
+        (((8, 1), missing), 7, enough(7), 8),
+        (((8, 0), missing), 7, enough(7), 8),
+        (((9, 1), missing), 7, enough(7), 9),
+        (((10, 999), missing), 7, enough(7), 10),
         (good, 7, Lengths { entries: 5, ..enough(7) }, 11),
-        (((0, 2), Some(0)), 7, enough(7), 12),
-        (((0, 2), Some(1)), 7, enough(7), 12),
+        (((0, 2), missing), 7, enough(7), 12),
+        (((0, 2), Some((12, 1))), 7, enough(7), 12),
+        (((0, 2), Some((15, 1))), 7, enough(7), 15),
         (good, 7, enough(7), 0),
     ];
     for (kind, n, lengths, other) in calls {
-        let case = cases().into_iter().find(|case| (case.read, case.missing) == kind).expect("there is a book of this kind");
+        let case = cases().into_iter().find(|case| (case.read, case.fault) == kind).expect("there is a book of this kind");
         for page in PAGES {
             let refusal = compare_resolve(page, &case.book, &text[..n], lengths, random.next()).refusal;
             assert_eq!(refusal, other, "page {page}, {kind:?} in {n} letters, {lengths:?}");
@@ -124,7 +133,7 @@ fn unknown_pages_between_scratch_and_copy() {
             assert_eq!(answer, due, "page {page}, which meets {other} too, {kind:?} in {n} letters, {lengths:?}");
         }
     }
-    report("unknown_pages_between_scratch_and_copy", 12 * (2 + 305));
+    report("unknown_pages_between_scratch_and_copy", 13 * (2 + 305));
 }
 
 /// What a call by an unknown page leaves, without the reference.
@@ -139,43 +148,86 @@ fn unknown_pages_write_nothing() {
     }
 }
 
+/// The book's cues rise, or they all are one, which is refused behind 11.
 #[test]
 fn every_number_of_entries() {
     let mut random = Random::new(62);
     for count in [0, 1, 2, 7, 400, 999] {
-        let book = MORE.repeat(count);
-        for entries in (0..3 * count + 3).rev().take(20).chain([0, count, 2 * count]) {
-            let lengths = Lengths { entries, ..Lengths::enough(4, count) };
-            let page = PAGES[entries % 2];
-            let answer = compare_resolve(page, &book, b"lala", lengths, random.next());
-            let reads = 4 * count.div_ceil(64) as u32;
-            let expected = if entries < 3 * count { (11, 0, 0) } else { (0, count as u32, reads) };
-            assert_eq!((answer.refusal, answer.number, answer.reads), expected, "page {page}, {count} cues, {entries} entries");
+        let text = b"la".repeat(count.max(2));
+        let n = text.len() as u32;
+        let rising = book(&(1..=count).map(|ordinal| Cue::new(b"a", ordinal as u16, b"")).collect::<Vec<_>>());
+        let resolved = (0, count as u32, n * count.div_ceil(64) as u32);
+        let repeated = if count < 2 { resolved } else { (15, 1, n) };
+        for (book, enough) in [(rising, resolved), (MORE.repeat(count), repeated)] {
+            for entries in (0..3 * count + 3).rev().take(20).chain([0, count, 2 * count]) {
+                let lengths = Lengths { entries, ..Lengths::enough(text.len(), count) };
+                let page = PAGES[entries % 2];
+                let answer = compare_resolve(page, &book, &text, lengths, random.next());
+                let expected = if entries < 3 * count { (11, 0, 0) } else { enough };
+                assert_eq!((answer.refusal, answer.number, answer.reads), expected, "page {page}, {count} cues, {entries} entries");
+            }
         }
     }
-    report("every_number_of_entries", 6 + 9 + 12 + 3 * 23);
+    report("every_number_of_entries", 2 * (6 + 9 + 12 + 3 * 23));
 }
 
-/// A missing occurrence at the first, a middle and the last cue: what is written and what is kept, without the reference.
+/// A song, and cues that run forward through it, each with its entries.
+const SONG: &[u8; 14] = b"Tra\nLa la\nLALA";
+const SONG_CUES: [(&[u8], u16, [u32; 3]); 5] =
+    [(b"tra", 1, [0, 1, 1]), (b"\nla", 1, [3, 1, 4]), (b"a l", 1, [5, 2, 2]), (b"la", 3, [10, 3, 1]), (b"LA", 4, [12, 3, 3])];
+
+/// Resolves the song's first cues, one of which is another one that is refused: what is written and what is kept, without the reference.
+#[track_caller]
+fn refuse_in_song(page: Page, count: usize, fault: usize, other: Cue, refusal: Refusal) {
+    let mut changed: Vec<Cue> = SONG_CUES[..count].iter().map(|&(phrase, ordinal, _)| Cue::new(phrase, ordinal, b"")).collect();
+    let told = format!("{page:?}, cue {fault} of {count} is {other:?}");
+    changed[fault] = other;
+    let (mut copy, mut scratch, mut entries) = ([7; 20], [7; 65_600], [7; 17]);
+    let mut memory = ResolverMemory { copy: &mut copy, scratch: &mut scratch, entries: &mut entries };
+    let answer = resolve(page, &book(&changed), SONG, &mut memory);
+    assert_eq!(answer, Err(ResolveError { refusal, cue: Some(fault) }), "{told}");
+    let written: Vec<u32> = SONG_CUES[..fault].iter().flat_map(|cue| cue.2).collect();
+    assert_eq!(entries[..3 * fault], written, "{told}: the earlier cues' entries");
+    assert_eq!(entries[3 * fault..], [7; 17][3 * fault..], "{told}: the entries from the refused cue on");
+    assert_eq!(copy, *b"tra\nla la\nlala\x07\x07\x07\x07\x07\x07", "{told}");
+    assert_eq!(scratch, [0; 65_600], "{told}");
+}
+
+/// Every cue of the song's first ones as the one at fault, with how many there are.
+fn each_fault(mut test: impl FnMut(Page, usize, usize)) {
+    for page in Page::ALL {
+        for count in 1..=SONG_CUES.len() {
+            (0..count).for_each(|fault| test(page, count, fault));
+        }
+    }
+}
+
+/// A missing occurrence at the first, a middle and the last cue. It has no place, wherever the cue before it stands, so that it meets 12 and not 15.
 #[test]
 fn missing_occurrences() {
-    let text = b"Tra\nLa la\nLALA";
-    let cues = [(&b"LA"[..], 4, [12, 3, 3]), (b"\nla", 1, [3, 1, 4]), (b"tra", 1, [0, 1, 1]), (b"a l", 1, [5, 2, 2]), (b"la", 3, [10, 3, 1])];
-    let ends: Vec<(usize, usize)> = (0..cues.len()).flat_map(|missing| (missing + 1..=cues.len()).map(move |rest| (missing, rest))).collect();
-    for page in Page::ALL {
-        for &(missing, rest) in &ends {
-            let mut changed: Vec<Cue> = cues[..rest].iter().map(|&(phrase, ordinal, _)| Cue::new(phrase, ordinal, b"")).collect();
-            changed[missing].ordinal = 5;
-            let (mut copy, mut scratch, mut entries) = ([7; 20], [7; 65_600], [7; 17]);
-            let mut memory = ResolverMemory { copy: &mut copy, scratch: &mut scratch, entries: &mut entries };
-            let answer = resolve(page, &book(&changed), text, &mut memory);
-            let told = format!("{page:?}, cue {missing} of {rest} missing");
-            assert_eq!(answer, Err(ResolveError { refusal: Refusal::NoOccurrence, cue: Some(missing) }), "{told}");
-            let written: Vec<u32> = cues[..missing].iter().flat_map(|cue| cue.2).collect();
-            assert_eq!(entries[..3 * missing], written, "{told}: the earlier cues' entries");
-            assert_eq!(entries[3 * missing..], [7; 17][3 * missing..], "{told}: the entries from the missing cue on");
-            assert_eq!(copy, *b"tra\nla la\nlala\x07\x07\x07\x07\x07\x07", "{told}");
-            assert_eq!(scratch, [0; 65_600], "{told}");
+    each_fault(|page, count, fault| {
+        for missing in [Cue::new(SONG_CUES[fault].0, 5, b""), Cue::new(b"so", 1, b""), Cue::new(&[b'a'; 15], 1, b"")] {
+            refuse_in_song(page, count, fault, missing, Refusal::NoOccurrence);
+        }
+    });
+}
+
+/// A cue at the place of the cue before it, or at any lower one, at the second, a middle and the last cue. The first cue meets no 15, at whatever place.
+#[test]
+fn places_that_do_not_rise() {
+    // One cue for each place of the song up to that of the last cue but one.
+    let at = [("t", 1), ("r", 1), ("a\n", 1), ("\n", 1), ("la", 1), ("a ", 1), (" ", 1), ("LA\n", 1), ("a", 3), ("\nl", 2), ("lala", 1)];
+    let at = at.map(|(phrase, ordinal)| Cue::new(phrase.as_bytes(), ordinal, b""));
+    each_fault(|page, count, fault| {
+        let before = if fault == 0 { 0 } else { SONG_CUES[fault - 1].2[0] as usize + 1 };
+        for other in &at[..before] {
+            refuse_in_song(page, count, fault, other.clone(), Refusal::NotForward);
+        }
+    });
+    for (place, cue) in at.iter().enumerate() {
+        for page in Page::ALL {
+            let found = resolve_all(page, &cue.bytes(), SONG).map(|places| places.iter().map(|at| at.place as usize).collect::<Vec<_>>());
+            assert_eq!(found, Ok(vec![place]), "{page:?}, {cue:?} alone");
         }
     }
 }

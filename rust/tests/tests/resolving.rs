@@ -3,37 +3,41 @@
 
 use libretto::{fold_text, resolve_all, CuePlace, Page};
 use libretto_tests::books::{book, Cue, CUES, PHRASE};
-use libretto_tests::groups::{resolve, resolve_missing, resolve_standing};
+use libretto_tests::groups::{resolve, resolve_backward, resolve_missing, resolve_rising, resolve_to, Outcome};
 use libretto_tests::pages::{letters, PAGES};
-use libretto_tests::verses::{in_any_case, missing, standing, total, verse, word, ALPHABETS};
+use libretto_tests::verses::{in_any_case, missing, not_behind, place_of, places, rising, total, verse, word, ALPHABETS};
 use libretto_tests::words::{fibonacci, periodic};
 use libretto_tests::{report, Random};
 
 /// The longest text.
 const TEXT: usize = 32_768;
 
-/// A few cues that stand in the text, and in every second round one that does not, among them or as the last; and which one that is.
-fn some_cues(page: u32, alphabet: &[u8], text: &[u8], round: usize, random: &mut Random) -> (Vec<Cue>, Option<usize>) {
-    let count = if text.is_empty() { 0 } else { random.below(7) };
+/// A few cues that run forward, in every second round with one at fault among them or as the last: it does not stand in the text, or, where there is a
+/// cue before it, not behind that; and what they come to.
+fn some_cues(page: u32, alphabet: &[u8], text: &[u8], round: usize, random: &mut Random) -> (Vec<Cue>, Outcome) {
+    let count = random.below(7).min(text.len());
     let longest = [2, 6, 40][random.below(3)];
-    let mut cues: Vec<Cue> = (0..count).map(|_| standing(page, text, longest, random)).collect();
-    let missing = (round % 2 == 1).then(|| {
-        let place = random.between(0, count);
-        cues.truncate(if random.below(2) == 0 { place } else { count });
-        cues.insert(place, missing(page, alphabet, text, random));
-        place
-    });
-    (cues, missing)
+    let mut cues = rising(page, text, count, longest, random);
+    if round % 2 != 1 {
+        return (cues, Outcome::Resolved);
+    }
+    let place = random.between(0, count);
+    cues.truncate(if random.below(2) == 0 { place } else { count });
+    if place > 0 && random.below(2) == 0 {
+        let before = place_of(page, &cues[place - 1], text).expect("the cue stands in the text");
+        cues.insert(place, not_behind(page, text, before, longest, random));
+        return (cues, Outcome::Backward(place));
+    }
+    cues.insert(place, missing(page, alphabet, text, random));
+    (cues, Outcome::Missing(place))
 }
 
 fn resolve_some(page: u32, alphabet: &[u8], text: &[u8], round: usize, random: &mut Random) {
-    match some_cues(page, alphabet, text, round, random) {
-        (cues, Some(place)) => resolve_missing(page, &cues, place, text, random),
-        (cues, None) => resolve_standing(page, &cues, text, random),
-    }
+    let (cues, outcome) = some_cues(page, alphabet, text, round, random);
+    resolve_to(outcome, page, &cues, text, random);
 }
 
-/// The page of a round. Both have each alphabet, each kind of length, and cues that do not stand in the text.
+/// The page of a round. Both have each alphabet, each kind of length, and cues at fault.
 fn page_of(round: usize) -> u32 {
     PAGES[round / 2 % 2]
 }
@@ -80,7 +84,7 @@ fn every_occurrence(page: u32, phrase: &[u8], text: &[u8], random: &mut Random) 
     let cue = |ordinal: usize| Cue { phrase: in_a_case(ordinal), ordinal: ordinal as u16, title: Vec::new() };
     let total = total(page, phrase, text);
     let mut cues: Vec<Cue> = (1..=total.min(CUES)).map(cue).collect();
-    resolve_standing(page, &cues, text, random);
+    resolve_rising(page, &cues, text, random);
     cues.truncate(CUES - 1);
     cues.push(cue(total + 1));
     resolve_missing(page, &cues, cues.len() - 1, text, random);
@@ -104,7 +108,19 @@ fn overlapping_refrains() {
     report("overlapping_refrains", 2 * 7 * 34);
 }
 
-/// Every text of up to eight letters and bytes of line ends, with every occurrence of every phrase of one or two in one book.
+/// Every occurrence of each of these phrases, which are of one length, in the order of their places.
+fn occurrences(page: u32, phrases: &[&[u8]], text: &[u8]) -> Vec<Cue> {
+    let of_phrase = |&phrase: &&[u8]| {
+        let cue = move |(index, place)| (place, Cue::new(phrase, index as u16 + 1, b""));
+        places(page, phrase, text).into_iter().enumerate().map(cue).collect::<Vec<_>>()
+    };
+    let mut placed: Vec<(usize, Cue)> = phrases.iter().flat_map(of_phrase).collect();
+    placed.sort_by_key(|(place, _)| *place);
+    placed.into_iter().map(|(_, cue)| cue).collect()
+}
+
+/// Every text of up to eight letters and bytes of line ends, with every occurrence of every phrase of one in one book, and of every phrase of two in
+/// another one.
 #[test]
 fn every_short_text() {
     let mut random = Random::new(55);
@@ -113,15 +129,15 @@ fn every_short_text() {
         for letters in 0..3usize.pow(length) {
             let text: Vec<u8> = (0..length).map(|k| b"a\n\r"[letters / 3usize.pow(k) % 3]).collect();
             let page = PAGES[letters % 2];
-            let occurrences = |phrase| (1..=total(page, phrase, &text)).map(move |ordinal| Cue::new(phrase, ordinal as u16, b""));
-            let cues: Vec<Cue> = phrases.iter().copied().flat_map(occurrences).collect();
-            resolve_standing(page, &cues, &text, &mut random);
+            for of_length in [&phrases[..3], &phrases[3..]] {
+                resolve_rising(page, &occurrences(page, of_length, &text), &text, &mut random);
+            }
             for phrase in phrases {
                 resolve_missing(page, &[Cue::new(phrase, total(page, phrase, &text) as u16 + 1, b"")], 0, &text, &mut random);
             }
         }
     }
-    report("every_short_text", 9841 * 13);
+    report("every_short_text", 9841 * 14);
 }
 
 /// All bytes in one text: which of them are one letter, by each page.
@@ -137,7 +153,7 @@ fn every_letter_with_every_other() {
         for letter in 0..=255 {
             let folded_alike = text.iter().filter(|&&other| rule(other) == rule(letter)).count();
             let cues: Vec<Cue> = (1..=folded_alike + 1).map(|ordinal| Cue::new(&[letter], ordinal as u16, b"")).collect();
-            resolve_standing(page, &cues[..folded_alike], &text, &mut random);
+            resolve_rising(page, &cues[..folded_alike], &text, &mut random);
             resolve_missing(page, &cues, folded_alike, &text, &mut random);
         }
     }
@@ -193,7 +209,7 @@ fn french_and_finnish_texts() {
                 assert_eq!(places.len(), total, "page {page}, \"{form}\": the total by Unicode");
                 let (text, form) = (letters(15, text), letters(15, form));
                 let cues: Vec<Cue> = (1..=total as u16 + 1).map(|ordinal| Cue::new(&form, ordinal, b"")).collect();
-                resolve_standing(page, &cues[..total], &text, &mut random);
+                resolve_rising(page, &cues[..total], &text, &mut random);
                 resolve_missing(page, &cues, total, &text, &mut random);
                 let found = resolve_all(Page::from_number(page).expect("the page is known"), &book(&cues[..total]), &text);
                 assert_eq!(found, Ok(places), "page {page}, \"{}\"", form.escape_ascii());
@@ -203,7 +219,7 @@ fn french_and_finnish_texts() {
     report("french_and_finnish_texts", 12 * 3 * 2 * 2);
 }
 
-/// A text that was folded beforehand gives the same places, lines and columns, and the same refusal where a cue is missing.
+/// A text that was folded beforehand gives the same places, lines and columns, and the same refusal where a cue is at fault.
 #[test]
 fn texts_folded_beforehand() {
     let mut random = Random::new(64);
@@ -263,8 +279,8 @@ fn places_lines_and_columns() {
     assert_eq!(places(&[&b"\n"[..], &[b'a'; TEXT - 1]].concat(), b"aa", 32_766), Some((32_766, 2, 32_766)));
 }
 
-/// Each ending after every number of letters up to some blocks of counting: cues before it, in it and after it, rising and falling, since a line is
-/// counted on from the cue before.
+/// Each ending after every number of letters up to some blocks of counting: cues before it, in it and after it, and some of them, since a line is
+/// counted on from the cue before. Falling they are refused.
 #[test]
 fn endings_at_every_distance() {
     let mut random = Random::new(60);
@@ -273,17 +289,16 @@ fn endings_at_every_distance() {
         for ending in endings {
             let text = [b"b", &vec![b'a'; distance][..], ending, b"b", &vec![b'a'; distance % 200], ending, b"b"].concat();
             let page = PAGES[distance % 2];
-            let cue = |phrase: &[u8], ordinal| Cue::new(phrase, ordinal, b"");
-            let mut cues: Vec<Cue> = (1..=3).map(|ordinal| cue(b"b", ordinal)).collect();
-            for byte in [b"\n", b"\r"] {
-                cues.extend((1..=total(page, byte, &text)).map(|ordinal| cue(byte, ordinal as u16)));
-            }
-            resolve_standing(page, &cues, &text, &mut random);
+            let mut cues = occurrences(page, &[b"b", b"\n", b"\r"], &text);
+            resolve_rising(page, &cues, &text, &mut random);
+            let mut some = cues.clone();
+            some.retain(|_| random.below(2) == 0);
+            resolve_rising(page, &some, &text, &mut random);
             cues.reverse();
-            resolve_standing(page, &cues, &text, &mut random);
+            resolve_backward(page, &cues, 1, &text, &mut random);
         }
     }
-    report("endings_at_every_distance", 601 * 7 * 2);
+    report("endings_at_every_distance", 601 * 7 * 3);
 }
 
 #[test]
@@ -299,29 +314,33 @@ fn longest_texts_and_phrases() {
                 }
                 let phrase = in_any_case(page, &text[n - m..], &mut random);
                 let last = total(page, &phrase, &text) as u16;
-                let cues = [1, last / 2 + 1, last, last + 1, 65_535].map(|ordinal| Cue::new(&phrase, ordinal, b"title"));
-                resolve_standing(page, &cues[..3], &text, &mut random);
-                resolve_missing(page, &cues, 3, &text, &mut random);
-                resolve_missing(page, &cues[4..], 0, &text, &mut random);
+                let mut ordinals = vec![1, last / 2 + 1, last, last + 1, 65_535];
+                ordinals.dedup();
+                let cues: Vec<Cue> = ordinals.iter().map(|&ordinal| Cue::new(&phrase, ordinal, b"title")).collect();
+                let found = cues.len() - 2;
+                resolve_rising(page, &cues[..found], &text, &mut random);
+                resolve_missing(page, &cues, found, &text, &mut random);
+                resolve_missing(page, &cues[found + 1..], 0, &text, &mut random);
             }
         }
     }
     report("longest_texts_and_phrases", 4 * 124);
 }
 
+/// The most cues, also at every letter of a text.
 #[test]
 fn most_cues() {
     let mut random = Random::new(58);
-    for (page, n) in [(1, 1), (15, 50), (1, 2000), (15, 2000)] {
+    for (page, n) in [(1, CUES), (15, CUES), (15, CUES + 1), (1, 2000), (15, 2000)] {
         let text = verse(page, ALPHABETS[6], n, &mut random);
-        let mut cues: Vec<Cue> = (0..CUES).map(|_| standing(page, &text, 8, &mut random)).collect();
-        resolve_standing(page, &cues, &text, &mut random);
+        let mut cues = rising(page, &text, CUES, 8, &mut random);
+        resolve_rising(page, &cues, &text, &mut random);
         for place in [998, 997, 500, 256, 255, 1, 0] {
             cues[place] = Cue::new(b"not in any verse", 1, b"");
             resolve_missing(page, &cues, place, &text, &mut random);
         }
     }
-    report("most_cues", 4 * 8);
+    report("most_cues", 5 * 8);
 }
 
 #[test]
@@ -329,7 +348,7 @@ fn nothing_to_find_or_to_search() {
     let mut random = Random::new(59);
     for text in [&b""[..], b"A", b"L\xc0\n", &[b'A'; TEXT]] {
         for round in 0..20 {
-            resolve_standing(page_of(round), &[], text, &mut random);
+            resolve_rising(page_of(round), &[], text, &mut random);
         }
     }
     for round in 0..20 {
