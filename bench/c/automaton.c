@@ -11,7 +11,7 @@
 #include <string.h>
 
 enum { GROUP_CUES = 64, GROUP_BYTES = 4096, STATE_ENTRIES = 8, CLASSES = STATE_ENTRIES * (GROUP_BYTES + 1), ROWS = CLASSES + 256 };
-enum { SHORT_ENTRIES = 11, NO_OCCURRENCE = 12 };
+enum { SHORT_ENTRIES = 11, NO_OCCURRENCE = 12, NOT_FORWARD = 15 };
 
 /* The place of a cue that has not been found. */
 #define NOWHERE UINT32_MAX
@@ -37,9 +37,9 @@ struct group {
     uint32_t lengths[GROUP_CUES], left[GROUP_CUES], places[GROUP_CUES];
 };
 
-/* A place with its line, and where that line starts. */
+/* A place with its line, and where that line starts; and the least place that the next cue may have, since the cues run forward. */
 struct position {
-    size_t place, start;
+    size_t place, start, least;
     uint32_t line;
 };
 
@@ -220,32 +220,37 @@ static inline uint32_t count_endings(const uint8_t *text, size_t from, size_t to
     return endings;
 }
 
-/* Moves to a place by the endings between it and the last one; without any it is in the same line. */
-static void move_to(struct position *at, const uint8_t *text, size_t place)
+/* Moves on to a place by the endings between it and the last one; without any it is in the same line, and otherwise behind the last of them. */
+static void move_on(struct position *at, const uint8_t *text, size_t place)
 {
-    uint32_t on = count_endings(text, at->place, place), back = count_endings(text, place, at->place);
+    uint32_t endings = count_endings(text, at->place, place);
 
     at->place = place;
-    if (on + back == 0)
+    at->least = place + 1;
+    if (endings == 0)
         return;
-    at->line += on - back;
+    at->line += endings;
     at->start = place;
-    while (at->start > 0 && !ends_line(text + at->start - 1))
+    while (!ends_line(text + at->start - 1))
         at->start--;
 }
 
-/* Writes the entries of a group's cues up to the first that has no place, and gives how many were written. */
-static size_t write_entries(const struct group *group, const uint8_t *text, struct position *at, uint32_t *restrict entries)
+/* Writes the entries of a group's cues up to the first that has no place, or one that is not above the last one's: 0 or the refusal, and how many
+ * were written. */
+static struct twin_answer write_entries(const struct group *group, const uint8_t *text, struct position *at, uint32_t *restrict entries)
 {
-    for (size_t k = 0; k < group->len; k++) {
-        if (group->places[k] == NOWHERE)
-            return k;
-        move_to(at, text, group->places[k]);
-        entries[3 * k] = group->places[k];
+    for (uint32_t k = 0; k < group->len; k++) {
+        uint32_t place = group->places[k];
+        if (place == NOWHERE)
+            return (struct twin_answer){NO_OCCURRENCE, k};
+        if (place < at->least)
+            return (struct twin_answer){NOT_FORWARD, k};
+        move_on(at, text, place);
+        entries[3 * k] = place;
         entries[3 * k + 1] = at->line;
-        entries[3 * k + 2] = (uint32_t)(group->places[k] + 1 - at->start);
+        entries[3 * k + 2] = (uint32_t)(place + 1 - at->start);
     }
-    return group->len;
+    return (struct twin_answer){0, (uint32_t)group->len};
 }
 
 static void fold_text(uint32_t page, const uint8_t *restrict text, size_t n, uint8_t *restrict copy)
@@ -262,7 +267,7 @@ struct twin_resolving twin_resolve(uint32_t page, const uint8_t *book, size_t bo
                                    uint16_t *restrict scratch, size_t scratch_len, uint32_t *restrict entries, size_t entries_len)
 {
     struct twin_answer read = twin_read_cues(book, book_len);
-    struct position at = {0, 0, 1};
+    struct position at = {0, 0, 0, 1};
     struct group group;
     uint32_t cue = 0, reads = 0;
 
@@ -276,10 +281,10 @@ struct twin_resolving twin_resolve(uint32_t page, const uint8_t *book, size_t bo
         place = take_group(&group, book, book_len, place);
         find_group(&group, page == 1 ? twin_page_1 : twin_page_15, copy, n, scratch, scratch_len);
         reads += (uint32_t)n;
-        size_t written = write_entries(&group, text, &at, entries + 3 * cue);
-        cue += (uint32_t)written;
-        if (written < group.len)
-            return (struct twin_resolving){NO_OCCURRENCE, cue, reads};
+        struct twin_answer written = write_entries(&group, text, &at, entries + 3 * cue);
+        cue += written.number;
+        if (written.refusal != 0)
+            return (struct twin_resolving){written.refusal, cue, reads};
     }
     return (struct twin_resolving){0, cue, reads};
 }

@@ -109,14 +109,23 @@ impl Book {
         }
     }
 
-    /// The entries of all cues, which library, twins and reference must write alike. A side that is wrong where a cue is missing could be faster, so
-    /// they must agree on the text's first half too, where the later cues are.
+    /// The book's bytes with this cue in place of the one behind it too, so that its places rise up to this cue and no further.
+    fn with_cue_twice(&self, cue: usize) -> Vec<u8> {
+        let cues = reference::cues(&self.bytes).expect("the book keeps the limits");
+        let start = if cue == 0 { 0 } else { cues[cue - 1].title.end };
+        let [end, rest] = [cue, cue + 1].map(|cue| cues[cue].title.end);
+        [&self.bytes[..end], &self.bytes[start..end], &self.bytes[rest..]].concat()
+    }
+
+    /// The entries of all cues, which library, twins and reference must write alike. A side that is wrong where a cue is missing or does not run forward
+    /// could be faster, so they must agree on the text's first half too, where the later cues are not, and on the book with a cue twice.
     fn check_resolving(&self, text: &Libretto, lent: &mut Lent) -> Vec<u32> {
-        for letters in [&text.letters[..TEXT_MAX / 2], &text.letters] {
-            self.check_side("the reference", letters, |memory| {
-                reference::resolve(PAGE.number(), &self.bytes, letters, memory.copy, memory.scratch, memory.entries)
+        let twice = self.with_cue_twice(CUES_MAX / 2);
+        for (book, letters) in [(&self.bytes, &text.letters[..TEXT_MAX / 2]), (&twice, &text.letters), (&self.bytes, &text.letters)] {
+            self.check_side("the reference", book, letters, |memory| {
+                reference::resolve(PAGE.number(), book, letters, memory.copy, memory.scratch, memory.entries)
             });
-            BUILDS.iter().for_each(|build| self.check_side("C", letters, |memory| self.resolve_by_twin(build, letters, memory)));
+            BUILDS.iter().for_each(|build| self.check_side("C", book, letters, |memory| resolve_by_twin(build, book, letters, memory)));
         }
         let raw = resolve_raw(PAGE.number(), &self.bytes, &text.letters, &mut lent.for_resolver());
         let due = (0, CUES_MAX as u32, (TEXT_MAX * self.groups()) as u32);
@@ -124,21 +133,22 @@ impl Book {
         lent.for_resolver().entries.to_vec()
     }
 
-    fn resolve_by_twin(&self, build: &Build, letters: &[u8], memory: &mut ResolverMemory<'_>) -> (u32, u32, u32) {
-        let given = build.resolve(PAGE, &self.bytes, letters, memory);
-        (given.refusal, given.number, given.reads)
-    }
-
-    /// Ends the program unless this side answers as the library does on these letters, and leaves the same memory, which is dirty before.
-    fn check_side(&self, side: &str, letters: &[u8], resolve: impl Fn(&mut ResolverMemory<'_>) -> (u32, u32, u32)) {
+    /// Ends the program unless this side answers as the library does on this book, its own or one made of it, and these letters, and leaves the same
+    /// memory, which is dirty before.
+    fn check_side(&self, side: &str, book: &[u8], letters: &[u8], resolve: impl Fn(&mut ResolverMemory<'_>) -> (u32, u32, u32)) {
         let dirt = Lent::dirty(&mut Random::new(3));
         let (mut library, mut other) = (dirt.clone(), dirt);
-        let raw = resolve_raw(PAGE.number(), &self.bytes, letters, &mut library.for_resolver());
+        let raw = resolve_raw(PAGE.number(), book, letters, &mut library.for_resolver());
         let answer = resolve(&mut other.for_resolver());
         let told = format!("phrases {}, {} letters", self.phrases, letters.len());
         assert_eq!((raw.refusal, raw.number, raw.reads), answer, "{told}: the library (left) and {side} answer differently");
         assert!(library == other, "{told}: the library and {side} leave different memory");
     }
+}
+
+fn resolve_by_twin(build: &Build, book: &[u8], letters: &[u8], memory: &mut ResolverMemory<'_>) -> (u32, u32, u32) {
+    let given = build.resolve(PAGE, book, letters, memory);
+    (given.refusal, given.number, given.reads)
 }
 
 /// Ends the program unless the library, the reference and every build of the twin give this answer.
@@ -246,15 +256,29 @@ mod tests {
     #[test]
     fn twins_resolve_as_the_library_does() {
         let (letters, book) = front();
-        BUILDS.iter().for_each(|build| book.check_side("C", &letters, |memory| book.resolve_by_twin(build, &letters, memory)));
+        // A cue is missing; and the second cue, the last of a group and the first of the next one do not run forward.
+        for bytes in [book.bytes.clone(), book.with_cue_twice(0), book.with_cue_twice(62), book.with_cue_twice(63)] {
+            BUILDS.iter().for_each(|build| book.check_side("C", &bytes, &letters, |memory| resolve_by_twin(build, &bytes, &letters, memory)));
+        }
+    }
+
+    #[test]
+    fn a_cue_twice_does_not_run_forward() {
+        let (letters, book) = front();
+        for cue in [0, 1, 62, 63, 64] {
+            let mut lent = Lent::dirty(&mut Random::new(4));
+            let answer = resolve_by_twin(&BUILDS[0], &book.with_cue_twice(cue), &letters, &mut lent.for_resolver());
+            let groups = if cue + 1 < 64 { 1 } else { 2 };
+            assert_eq!(answer, (15, cue as u32 + 1, 3000 * groups), "cue {cue} twice");
+        }
     }
 
     #[test]
     #[should_panic(expected = "a side that counts no reads answer differently")]
     fn a_wrong_answer_is_found() {
         let (letters, book) = front();
-        book.check_side("a side that counts no reads", &letters, |memory| {
-            let (refusal, number, _) = book.resolve_by_twin(&BUILDS[0], &letters, memory);
+        book.check_side("a side that counts no reads", &book.bytes, &letters, |memory| {
+            let (refusal, number, _) = resolve_by_twin(&BUILDS[0], &book.bytes, &letters, memory);
             (refusal, number, 0)
         });
     }
@@ -263,8 +287,8 @@ mod tests {
     #[should_panic(expected = "a side that does not clear its scratch leave different memory")]
     fn wrong_memory_is_found() {
         let (letters, book) = front();
-        book.check_side("a side that does not clear its scratch", &letters, |memory| {
-            let answer = book.resolve_by_twin(&BUILDS[0], &letters, memory);
+        book.check_side("a side that does not clear its scratch", &book.bytes, &letters, |memory| {
+            let answer = resolve_by_twin(&BUILDS[0], &book.bytes, &letters, memory);
             memory.scratch[40_000] = 1;
             answer
         });
