@@ -17,22 +17,29 @@ use Rattle.cues.specs.Reading.{cueRefusal, cueOf}
 use Rattle.cues.proofs.Cues.{cue-phrase}
 use Rattle.cue_book.specs.Reading.{cues, readBook}
 use Rattle.cue_book.proofs.Books.{Left, left-all, left-first}
-use Rattle.outcome.specs.Outcome.{letters, few, short, fits, groupsAfter, groups, Judged, judgedCount, judgedOf, readsOf}
+use Rattle.outcome.specs.Outcome.{letters, few, short, fitting, fits, groupsAfter, groups, Judged, judgedCount, judgedOf, readsOf}
 use Rattle.outcome.specs.Told.{joined, AllSome, AllFit, AllFull, Grouping, Group, Holds, GroupOf, groupNumber}
 
 -- ---- what fits is 64 cues and 4,096 phrase bytes at the most, and what is no more fits
 
+pub fitting-most : (count bytes : ℕ) → fitting count bytes ≡ true → (count ≤ 64) × (bytes ≤ 4096)
+fitting-most count bytes e =
+    let h = both (few count) (short bytes) e in
+    let most = leb-true count _ (h .0) in
+    let most₂ = leb-true bytes _ (h .1) in
+    (omega (arith, most), omega (arith, most₂))
+
 pub fit-few : (g : List Cue) → fits g ≡ true → length g ≤ 64
-fit-few g e = let h = leb-true (length g) _ (both (few g) (short g) e .0) in omega (arith, h)
+fit-few g e = fitting-most (length g) (letters g) e .0
 
 pub fit-short : (g : List Cue) → fits g ≡ true → letters g ≤ 4096
-fit-short g e = let h = leb-true (letters g) _ (both (few g) (short g) e .1) in omega (arith, h)
+fit-short g e = fitting-most (length g) (letters g) e .1
+
+pub fitting-when : (count bytes : ℕ) → count ≤ 64 → bytes ≤ 4096 → fitting count bytes ≡ true
+fitting-when count bytes h k = ap₂ (λ (s t : Bool). s && t) (le-leb count _ (omega (arith, h))) (le-leb bytes _ (omega (arith, k)))
 
 pub fit-when : (g : List Cue) → length g ≤ 64 → letters g ≤ 4096 → fits g ≡ true
-fit-when g h k = ap₂ (λ (s t : Bool). s && t) (le-leb (length g) _ (omega (arith, h))) (le-leb (letters g) _ (omega (arith, k)))
-
-pub unfit : (g : List Cue) → (fits g ≡ true → ⊥) → fits g ≡ false
-unfit g no-room = by-test (λ t. (fits g ≡ t) → fits g ≡ false) (fits g) (λ _ e. absurd (no-room e)) (λ _ e. e) refl
+fit-when g = fitting-when (length g) (letters g)
 
 -- ---- the next cue
 

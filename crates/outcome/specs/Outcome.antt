@@ -98,15 +98,18 @@ unfoldable pub letters : List Cue → ℕ
 letters [] = 0
 letters (c ∷ cs) = length (c .phrase) + letters cs
 
--- whether they fit into one group
-abbrev pub few : List Cue → Bool
-few group = leb (length group) 64
+-- whether so many cues with so many phrase bytes fit into one group
+abbrev pub few : ℕ → Bool
+few count = leb count 64
 
-abbrev pub short : List Cue → Bool
-short group = leb (letters group) 4096
+abbrev pub short : ℕ → Bool
+short bytes = leb bytes 4096
+
+abbrev pub fitting : ℕ → ℕ → Bool
+fitting count bytes = few count && short bytes
 
 abbrev pub fits : List Cue → Bool
-fits group = few group && short group
+fits group = fitting (length group) (letters group)
 
 -- the groups, where the first of them has begun: a cue joins it while it fits, and else begins the next
 unfoldable pub groupsAfter : List Cue → List Cue → List (List Cue)

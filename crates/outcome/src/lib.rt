@@ -1,9 +1,9 @@
 // What resolving the cues of a book comes to, as definitions and laws: which cues are chosen, where each stands, the first fault, what is written, how often the text is read, and what a call gives back.
-// `resolver` computes what is defined here; the functions of this crate make the tests of a call before its book is read, and those of a cue. A change to a definition or a law is checked here, in a
+// `resolver` computes what is defined here; the functions of this crate make the tests of a call before its book is read, of a group and of a cue. A change to a definition or a law is checked here, in a
 // second or two.
 // It depends on `matching` for the occurrences and the table of refusals, on `fold` for the pages that there are, on `line_column` for the line rule, on `cue_fields` and `cues` for a cue, and on `cue_book` for what a book reads as.
 ghost use mathlib.Core.Path.{_≡_};
-ghost use Rattle.outcome.specs.Outcome.{callRefusalOf, faultOf};
+ghost use Rattle.outcome.specs.Outcome.{callRefusalOf, fitting, faultOf};
 
 // The tests of the text, of the page and of the lent memory, before the book is read; 0 for none.
 pub fn refused(page: u32, n: usize, copy: usize, scratch: usize) -> u32
@@ -22,6 +22,13 @@ pub fn refused(page: u32, n: usize, copy: usize, scratch: usize) -> u32
         return 6;
     }
     0
+}
+
+// Whether so many cues with so many phrase bytes fit into one group.
+pub fn group_fits(count: usize, bytes: usize) -> bool
+    ensures { λ r. ⌜ r ≡ fitting count bytes ⌝ }
+{
+    count <= 64 && bytes <= 4096
 }
 
 // The tests of a cue, by whether its occurrence exists, how many cues came before it, the place of the last of them, and its own; 0 for none.

@@ -1,10 +1,10 @@
 -- A group read from the book: what is known cue by cue, and where it ends. Assumes nothing.
 use mathlib.Core.Path.{_≡_, refl, sym, ap, ap₂, subst, _∙_}
-use Prim.Native.Nat.{ℕ, _+_, _-_, _≤_, _<_, min}
+use Prim.Native.Nat.{ℕ, _+_, _-_, _≤_, _<_}
 use native.Mathlib.Omega.{arith}
-use mathlib.Core.Bool.{false}
+use mathlib.Core.Bool.{true, false, true≢false}
 use mathlib.Core.List.{List, [], _∷_, _++_, map-append, append-assoc}
-use lib.ListN.{length, take, drop, set, length-append, length-drop, length-map, length-take}
+use lib.ListN.{length, take, drop, set, length-append, length-drop, length-map}
 use lib.Seq.{length-take-le}
 use borrow.Author.Tests.{eqb-false}
 use Rattle.matching.specs.Received.{received}
@@ -19,8 +19,8 @@ use Rattle.cues.specs.Reading.{cueRefusal, cueOf}
 use Rattle.cues.proofs.Cues.{CueAt, phrase-inside}
 use Rattle.cue_book.specs.Reading.{readUpTo}
 use Rattle.cue_book.proofs.Books.{Left, First, left-first}
-use Rattle.outcome.specs.Outcome.{letters, fits}
-use Rattle.outcome.proofs.Grouping.{fit-few, fit-short, fit-when, unfit, letters-more}
+use Rattle.outcome.specs.Outcome.{letters, fitting, fits}
+use Rattle.outcome.proofs.Grouping.{fitting-most, fitting-when, fit-when, letters-more}
 use Rattle.resolver.specs.Walking.{restAt, CuesLeft, Remaining, Held, cuesHeld, startsOf, lensOf, ordinalsOf, Gatherable, Gathered}
 
 -- ---- the cues that are left
@@ -94,6 +94,7 @@ pub record Gathers (book : List ℕ) (index place : ℕ) (starts₀ lens₀ ordi
   pub counted : count ≡ length held
   pub left : Left book (index + count) end later
   pub summed : sum ≡ letters (cuesHeld held)
+  pub few : count ≤ 64
   pub short : sum ≤ 4096
   pub starts-are : starts ≡ received starts₀ (startsOf held)
   pub lens-are : lens ≡ received lens₀ (lensOf held)
@@ -110,6 +111,7 @@ gathers-none {book} {index} {rest} {place} {starts} {lens} {ordinals} r =
       counted = refl;
       left = subst (λ (i : ℕ). Left book i place (restAt book index place)) same (left-of (r .left));
       summed = refl;
+      few = omega arith;
       short = omega arith;
       starts-are = sym (received-none starts);
       lens-are = sym (received-none lens);
@@ -129,9 +131,9 @@ module _ {book : List ℕ} {index place : ℕ} {starts₀ lens₀ ordinals₀ : 
   gathers-cue h = next-cue (g .later) (omega (arith, all-left)) (g .left)
 
   -- where it ends: the arrays' first entries are the group's
-  ended : 1 ≤ count → count ≤ 64 → (1 ≤ length (g .later) → fits (cuesHeld (g .held) ++ take 1 (g .later)) ≡ false) → 64 ≤ length starts₀ → 64 ≤ length lens₀ → 64 ≤ length ordinals₀
+  ended : 1 ≤ count → (1 ≤ length (g .later) → fits (cuesHeld (g .held) ++ take 1 (g .later)) ≡ false) → 64 ≤ length starts₀ → 64 ≤ length lens₀ → 64 ≤ length ordinals₀
       → Gathered book index place (record { count = count; end = end }) starts lens ordinals
-  ended some few closed s l o =
+  ended some closed s l o =
       let hs : List (Held book) = g .held in
       let size : length (cuesHeld hs) ≡ count = length-map hs (λ (h : Held book). h .cue) ∙ sym (g .counted) in
       record {
@@ -140,7 +142,7 @@ module _ {book : List ℕ} {index place : ℕ} {starts₀ lens₀ ordinals₀ : 
               group = cuesHeld hs;
               later = g .later;
               split = g .split;
-              grouped = record { some = omega (arith, size, some); fit = fit-when (cuesHeld hs) (omega (arith, size, few)) (omega (arith, g .summed, g .short)); closed = closed };
+              grouped = record { some = omega (arith, size, some); fit = fit-when (cuesHeld hs) (omega (arith, size, g .few)) (omega (arith, g .summed, g .short)); closed = closed };
               counted = sym size;
               left = cues-left (g .left);
             };
@@ -154,38 +156,36 @@ module _ {book : List ℕ} {index place : ℕ} {starts₀ lens₀ ordinals₀ : 
       front : {list : List ℕ} (list₀ values : List ℕ) → list ≡ received list₀ values → length values ≡ length (g .held) → 64 ≤ length list₀ → take count list ≡ values
       front {list} list₀ values e size room =
           let same : count ≡ length values = omega (arith, size, g .counted) in
-          ap₂ (λ (k : ℕ) (l : List ℕ). take k l) same e ∙ received-whole list₀ values (omega (arith, same, few, room))
+          ap₂ (λ (k : ℕ) (l : List ℕ). take k l) same e ∙ received-whole list₀ values (omega (arith, same, g .few, room))
 
   module _ {rest : ℕ} (lent : Gatherable book index rest place starts₀ lens₀ ordinals₀) where
-    -- no cue is left, or 64 are gathered
-    pub gathered-all : count ≡ min rest 64 → Gathered book index place (record { count = count; end = end }) starts lens ordinals
-    gathered-all most =
-        let all = all-left in
-        ended (omega (arith, lent .remaining .some)) (omega arith)
-        (λ h.
-        let group : List Cue = cuesHeld (g .held) ++ take 1 (g .later) in
-        let size : length group ≡ count + 1 =
-        length-append (cuesHeld (g .held)) (take 1 (g .later)) ∙ omega (arith, h, g .counted, length-map (g .held) (λ (x : Held book). x .cue), length-take 1 (g .later)) in
-        unfit group (λ e. omega (arith, fit-few group e, size, h, all, lent .remaining .number)))
-        (lent .starts-room) (lent .lens-room) (lent .ordinals-room)
+    -- no cue is left
+    pub gathered-all : rest ≤ count → Gathered book index place (record { count = count; end = end }) starts lens ordinals
+    gathered-all all =
+        ended (omega (arith, all, lent .remaining .some)) (λ h. absurd (omega (arith, all, all-left, lent .remaining .number))) (lent .starts-room) (lent .lens-room) (lent .ordinals-room)
 
     module _ {phrase phrase-end ordinal title after : ℕ} (n : Next book (index + count) end (g .later)) (c : CueAt book end phrase phrase-end ordinal title after) where
-      -- with this cue they would be too long
-      pub gathered-long : count ≤ 64 → 4096 < sum + (phrase-end - phrase) → Gathered book index place (record { count = count; end = end }) starts lens ordinals
+      -- the next one does not fit
+      pub gathered-full : fitting (count + 1) (sum + (phrase-end - phrase)) ≡ false → Gathered book index place (record { count = count; end = end }) starts lens ordinals
       unfolding letters
-      gathered-long few long =
-          let size = length-read n c in
-          let group : List Cue = cuesHeld (g .held) ++ take 1 (g .later) in
-          let whole : letters group ≡ sum + length (n .cue .phrase) =
-          letters-more (cuesHeld (g .held)) (take 1 (g .later)) ∙ omega (arith, g .summed, ap (λ (l : List Cue). letters (take 1 l)) (n .is)) in
-          ended (some (g .held) (g .summed) (g .counted)) few (λ h. unfit group (λ e. omega (arith, fit-short group e, whole, size, long))) (lent .starts-room) (lent .lens-room) (lent .ordinals-room)
+      gathered-full full =
+          let hs : List (Held book) = g .held in
+          let group : List Cue = cuesHeld hs ++ take 1 (g .later) in
+          let first : take 1 (g .later) ≡ n .cue ∷ [] = ap (take 1) (n .is) in
+          let cues : count + 1 ≡ length group = omega (arith, length-append (cuesHeld hs) (take 1 (g .later)), g .counted, length-map hs (λ (x : Held book). x .cue), ap length first) in
+          let bytes : sum + (phrase-end - phrase) ≡ letters group = omega (arith, letters-more (cuesHeld hs) (take 1 (g .later)), g .summed, length-read n c, ap letters first) in
+          ended (some hs (g .summed) (g .counted)) (λ _. ap₂ fitting (sym cues) (sym bytes) ∙ full) (lent .starts-room) (lent .lens-room) (lent .ordinals-room)
         where
+          -- one cue by itself does
           some : (hs : List (Held book)) → sum ≡ letters (cuesHeld hs) → count ≡ length hs → 1 ≤ count
-          some [] e k = absurd (omega (arith, e, phrase-inside c .short, long))
+          some [] e k = absurd (true≢false (sym (fit-one) ∙ full))
+            where
+              fit-one : fitting (count + 1) (sum + (phrase-end - phrase)) ≡ true
+              fit-one = fitting-when (count + 1) (sum + (phrase-end - phrase)) (omega (arith, k)) (omega (arith, e, phrase-inside c .short))
           some (h ∷ hs) e k = omega (arith, k)
 
       -- it is gathered
-      pub gathers-next : {sum′ : ℕ} → sum′ ≡ sum + (phrase-end - phrase) → sum′ ≤ 4096
+      pub gathers-next : {sum′ : ℕ} → sum′ ≡ sum + (phrase-end - phrase) → fitting (count + 1) sum′ ≡ true
           → Gathers book index place starts₀ lens₀ ordinals₀ (count + 1) sum′ after (set starts count phrase) (set lens count (phrase-end - phrase)) (set ordinals count ordinal)
       unfolding letters held-here
       gathers-next {sum′} e h =
@@ -201,7 +201,8 @@ module _ {book : List ℕ} {index place : ℕ} {starts₀ lens₀ ordinals₀ : 
             counted = omega (arith, g .counted, length-append hs (this ∷ []));
             left = subst (λ (i : ℕ). Left book i after (n .later)) (omega arith) (n .begun .then (c .end-is));
             summed = omega (arith, e, g .summed, length-read n c, ap letters more, letters-more (cuesHeld hs) (n .cue ∷ []));
-            short = h;
+            few = fitting-most (count + 1) sum′ h .0;
+            short = fitting-most (count + 1) sum′ h .1;
             starts-are =
                 ap (λ (l : List ℕ). set l count phrase) (g .starts-are) ∙ put-more starts₀ (startsOf hs) count phrase (g .counted ∙ sym (length-map hs (λ (x : Held book). x .start)))
                 ∙ ap (received starts₀) (sym (map-append (λ (x : Held book). x .start) hs (this ∷ [])));

@@ -5,7 +5,7 @@
 use cues::CueAnswer;
 use line_column::LineColumn;
 ghost use mathlib.Core.Path.{_≡_};
-ghost use Prim.Native.Nat.{_+_, _≤_, min};
+ghost use Prim.Native.Nat.{_+_, _≤_};
 ghost use lib.ListN.{length, set};
 ghost use Rattle.line_column.specs.LineColumn.{lineColumn};
 ghost use Rattle.resolver.specs.Resolver.{Resolved};
@@ -51,16 +51,6 @@ struct GroupResolved {
     spot: LineColumn,
 }
 
-// How many cues a group may have, where so many are left.
-fn most_cues(rest: usize) -> usize
-    ensures { λ r. ⌜ r ≡ min rest 64 ⌝ }
-{
-    if 64 < rest {
-        return 64;
-    }
-    rest
-}
-
 // Reads the next group from the book, of which so many cues are left at a place: where each phrase starts, its length, and the cue's ordinal. A cue that would be the 65th, or pass 4,096 phrase bytes, is
 // left for the next group.
 fn gather(
@@ -75,11 +65,10 @@ fn gather(
     requires { ⌜ Gatherable (now book) index rest place (now starts) (now lens) (now ordinals) ⌝ }
     ensures { λ r. ⌜ Gathered (now (book .entry)) index place r (now (starts .exit)) (now (lens .exit)) (now (ordinals .exit)) ⌝ }
 {
-    let most = most_cues(rest);
     let mut count = 0;
     let mut letters = 0;
     let mut end = place;
-    while count < most {
+    while count < rest {
         let cue = cues::read_cue(book, end);
         let CueAnswer::Cue {
             phrase: start,
@@ -94,7 +83,7 @@ fn gather(
         };
         let len = stop - start;
         letters += len;
-        if 4096 < letters {
+        if !outcome::group_fits(count + 1, letters) {
             return CuesRead { count, end };
         }
         starts[count] = start;
