@@ -1,13 +1,13 @@
--- A table of refusals: the row that is met after those that were passed (`met`), none where all were passed (`none-met`, `all-passed`), the largest number (`met-most`), and a number that is none of them (`met-not`). Assumes nothing.
+-- A table of refusals: the row that is met after those that were passed (`met`), none where all were passed (`none-met`, `all-passed`), the largest number (`met-most`), the only one from some number on (`met-gap`), and a number that is none of them (`met-not`). Assumes nothing.
 use mathlib.Core.Path.{_≡_, refl}
 use Prim.Native.Nat.{ℕ, _≤_}
 use native.Mathlib.Omega.{arith}
-use mathlib.Core.Bool.{Bool, true, false, cond, not, _&&_}
+use mathlib.Core.Bool.{Bool, true, false, cond, not, _&&_, _||_}
 use mathlib.Core.List.{List, [], _∷_, _++_}
-use lib.Dec.{eqb, leb}
-use borrow.Author.Tests.{leb-true, eqb-false, not-true}
+use lib.Dec.{eqb, ltb, leb}
+use borrow.Author.Tests.{leb-true, eqb-true, eqb-false, le-ltb, not-true}
 use Rattle.matching.specs.Refusals.{Test, firstMet}
-use Rattle.matching.proofs.CaseAnalysis.{by-test, both, cond-most}
+use Rattle.matching.proofs.CaseAnalysis.{by-test, both, either, cond-most}
 
 -- every row was passed
 unfoldable pub Passed : List Test → Type 0
@@ -62,6 +62,21 @@ met-most most (t ∷ ts) w =
     let w′ = both (leb 1 (t .1) && leb (t .1) most) (numbersTo most ts) w in
     let here = both (leb 1 (t .1)) (leb (t .1) most) (w′ .0) in
     cond-most (t .0) (leb-true (t .1) most (here .1)) (met-most most ts (w′ .1))
+
+-- a number from `low` on is `high`, where every row's number is below the one or is the other; a test that computes on a table
+unfoldable pub gapped : ℕ → ℕ → List Test → Bool
+gapped low high [] = true
+gapped low high (t ∷ ts) = (ltb (t .1) low || eqb (t .1) high) && gapped low high ts
+
+pub met-gap : (low high : ℕ) (ts : List Test) → gapped low high ts ≡ true → 1 ≤ low → low ≤ firstMet ts → firstMet ts ≡ high
+unfolding firstMet gapped
+met-gap low high [] w some h = absurd (omega arith)
+met-gap low high (t ∷ ts) w some h =
+    let w′ = both (ltb (t .1) low || eqb (t .1) high) (gapped low high ts) w in
+    by-test (λ b. low ≤ cond b (t .1) (firstMet ts) → cond b (t .1) (firstMet ts) ≡ high) (t .0)
+    (λ _ m. eqb-true (t .1) high (either (ltb (t .1) low) (eqb (t .1) high) (w′ .0) (le-ltb (t .1) low m)))
+    (λ _ m. met-gap low high ts (w′ .1) some m)
+    h
 
 -- a number that no row has is not met; a test that computes on a table
 unfoldable pub without : ℕ → List Test → Bool

@@ -1,7 +1,7 @@
--- Those of some positions that pass a test: `those` of specs/Joined.antt. Assumes nothing.
+-- Those of some things that pass a test: `those` of specs/Joined.antt. Assumes nothing.
 use mathlib.Core.Path.{_≡_, refl, sym, ap, _∙_}
 use mathlib.Core.Logic.{⊎-elim}
-use Prim.Native.Nat.{ℕ, suc, _≤_}
+use Prim.Native.Nat.{suc, _≤_}
 use native.Mathlib.Omega.{arith}
 use mathlib.Core.Bool.{Bool, true, false, cond}
 use mathlib.Core.List.{List, [], _∷_, _++_, List·Memᴰ, List·Memᴰ·head, List·Memᴰ·tail, List·Memᴰ·cases-cons, List·Memᴰ·not-nil}
@@ -9,8 +9,8 @@ use lib.ListN.{length}
 use Rattle.matching.specs.Joined.{those}
 use Rattle.matching.proofs.CaseAnalysis.{by-test}
 
-module _ (test : ℕ → Bool) where
-  pub those-append : (ks js : List ℕ) → those test (ks ++ js) ≡ those test ks ++ those test js
+module _ {A : Type 0} (test : A → Bool) where
+  pub those-append : (ks js : List A) → those test (ks ++ js) ≡ those test ks ++ those test js
   unfolding those
   those-append [] js = refl
   those-append (k ∷ ks) js =
@@ -22,24 +22,24 @@ module _ (test : ℕ → Bool) where
   unfolding those
   those-nothing = refl
 
-  pub those-few : (ks : List ℕ) → length (those test ks) ≤ length ks
+  pub those-few : (ks : List A) → length (those test ks) ≤ length ks
   unfolding those
   those-few [] = omega arith
   those-few (k ∷ ks) = by-test (λ t. length (cond t (k ∷ those test ks) (those test ks)) ≤ suc (length ks)) (test k) (λ _. omega (arith, those-few ks)) (λ _. omega (arith, those-few ks))
 
   -- all do, or none does
-  pub those-all : (ks : List ℕ) → ((k : ℕ) → List·Memᴰ k ks → test k ≡ true) → those test ks ≡ ks
+  pub those-all : (ks : List A) → ((k : A) → List·Memᴰ k ks → test k ≡ true) → those test ks ≡ ks
   unfolding those
   those-all [] h = refl
   those-all (k ∷ ks) h = rw (h k (List·Memᴰ·head refl), those-all ks (λ j m. h j (List·Memᴰ·tail m)))
 
-  pub those-none : (ks : List ℕ) → ((k : ℕ) → List·Memᴰ k ks → test k ≡ false) → those test ks ≡ []
+  pub those-none : (ks : List A) → ((k : A) → List·Memᴰ k ks → test k ≡ false) → those test ks ≡ []
   unfolding those
   those-none [] h = refl
   those-none (k ∷ ks) h = rw (h k (List·Memᴰ·head refl), those-none ks (λ j m. h j (List·Memᴰ·tail m)))
 
-  -- a position is among them exactly where it is among all and passes
-  pub those-sound : (ks : List ℕ) (k : ℕ) → List·Memᴰ k (those test ks) → List·Memᴰ k ks × (test k ≡ true)
+  -- a thing is among them exactly where it is among all and passes
+  pub those-sound : (ks : List A) (k : A) → List·Memᴰ k (those test ks) → List·Memᴰ k ks × (test k ≡ true)
   unfolding those
   those-sound [] k m = absurd (List·Memᴰ·not-nil m)
   those-sound (j ∷ ks) k m =
@@ -50,7 +50,7 @@ module _ (test : ℕ → Bool) where
       later : List·Memᴰ k ks × (test k ≡ true) → List·Memᴰ k (j ∷ ks) × (test k ≡ true)
       later r = (List·Memᴰ·tail (r .0), r .1)
 
-  pub those-complete : (ks : List ℕ) (k : ℕ) → List·Memᴰ k ks → test k ≡ true → List·Memᴰ k (those test ks)
+  pub those-complete : (ks : List A) (k : A) → List·Memᴰ k ks → test k ≡ true → List·Memᴰ k (those test ks)
   unfolding those
   those-complete [] k m e = absurd (List·Memᴰ·not-nil m)
   those-complete (j ∷ ks) k m e =

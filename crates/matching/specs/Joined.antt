@@ -9,10 +9,10 @@ use lib.Dec.{ltb}
 use Rattle.matching.specs.declared.Finding.{Finding}
 use Rattle.matching.specs.Occurrences.{occurrences, Occurs}
 
--- those of some positions that pass a test, in their order
-unfoldable pub those : (ℕ → Bool) → List ℕ → List ℕ
+-- those of some things that pass a test, in their order
+unfoldable pub those : {A : Type 0} → (A → Bool) → List A → List A
 those test [] = []
-those test (k ∷ ks) = let rest = those test ks in cond (test k) (k ∷ rest) rest
+those test (x ∷ xs) = let rest = those test xs in cond (test x) (x ∷ rest) rest
 
 -- whether a pattern of m letters at position k starts before the seam that follows n letters, and ends after it
 abbrev pub crosses : ℕ → ℕ → ℕ → Bool
