@@ -3,24 +3,27 @@ use mathlib.Core.Path.{_≡_, refl, sym, ap, ap₂, subst, _∙_}
 use Prim.Native.Nat.{ℕ, zero, suc, _+_, _-_, _≤_, _<_}
 use native.Mathlib.Omega.{arith}
 use native.Mathlib.Numerals.{add-one}
-use mathlib.Core.Bool.{cond}
+use mathlib.Core.Bool.{true, false, cond}
 use mathlib.Core.List.{List, [], _∷_, _++_, append-nil}
 use lib.ListN.{length, getD, take, drop, length-drop, length-append}
 use lib.Seq.{getD-append-seam}
 use lib.Dec.{eqb, ltb}
 use borrow.Author.Tests.{eq-eqb, ne-eqb, eqb-true, eqb-false, lt-ltb, le-ltb, ltb-true, ltb-false}
+use Rattle.matching.specs.Joined.{those}
 use Rattle.matching.proofs.CaseAnalysis.{by-test}
+use Rattle.matching.proofs.Those.{those-nothing, those-append, those-few}
 use Rattle.cue_fields.specs.Field.{fieldBody}
 use Rattle.cue_fields.specs.Form.{formSize, afterForm}
 use Rattle.cue_fields.proofs.Fields.{after-field}
 use Rattle.cues.specs.declared.CueAnswer.{CueAnswer}
-use Rattle.cues.specs.Cue.{Cue, headForm}
+use Rattle.cues.specs.declared.Days.{Days}
+use Rattle.cues.specs.Cue.{Cue, headForm, daysHold, playsOn}
 use Rattle.cues.specs.Reading.{cueRefusal, cueSize, afterCue, cueOf}
 use Rattle.cues.specs.Places.{cueEnd, titleStart, titleLength, cueAt, CueRead}
-use Rattle.cues.proofs.Cues.{cue-most, cue-phrase, cue-inside, title-body, title-last, CueAt, title-ends}
+use Rattle.cues.proofs.Cues.{cue-gap, cue-phrase, cue-inside, title-body, title-last, CueAt, title-ends}
 use Rattle.cue_book.specs.declared.Part.{Part}
-use Rattle.cue_book.specs.Reading.{Reading, refused, cues, followed, readUpTo, readBook, refusalOf, numberOf, cuesIn, titleAt}
-use Rattle.cue_book.specs.Places.{cuePlace, CueBack, titleIn, front, titlePart, Shows, TitlePlaced}
+use Rattle.cue_book.specs.Reading.{Reading, refused, cues, followed, readUpTo, readBook, refusalOf, numberOf, playing, playingOf, cuesIn, titleAt}
+use Rattle.cue_book.specs.Places.{playingAnswer, cuePlace, CueBack, titleIn, front, titlePart, Shows, TitlePlaced}
 
 -- ---- reading on from here, by its cases
 
@@ -112,27 +115,30 @@ ends (suc more) index rest e =
     not-followed (refused number index) e = not-both e
     not-followed (cues cs) e = not-empty (sym e)
 
--- a refused book's number is not 0, and is at most 10
-pub refused-number : (more index : ℕ) (rest : List ℕ) {number at : ℕ} → readUpTo more index rest ≡ refused number at → (1 ≤ number) × (number ≤ 10)
+-- a refused book's number is not 0, and one from 11 on is 16
+pub refused-number : (more index : ℕ) (rest : List ℕ) {number at : ℕ} → readUpTo more index rest ≡ refused number at → (1 ≤ number) × (11 ≤ number → number ≡ 16)
 refused-number zero index rest {number} e =
-    by-test (λ _. (1 ≤ number) × (number ≤ 10)) (eqb (length rest) 0)
+    by-test (λ _. (1 ≤ number) × (11 ≤ number → number ≡ 16)) (eqb (length rest) 0)
     (λ t. not-both (sym e ∙ read-end zero index rest (eqb-true (length rest) 0 t)))
-    (λ t. let is = ap refusalOf (sym (read-over index rest (eqb-false (length rest) 0 t)) ∙ e) in (omega (arith, is), omega (arith, is)))
+    (λ t. let is = ap refusalOf (sym (read-over index rest (eqb-false (length rest) 0 t)) ∙ e) in (omega (arith, is), λ h. absurd (omega (arith, is))))
 refused-number (suc more) index rest {number} {at} e =
-    by-test (λ _. (1 ≤ number) × (number ≤ 10)) (eqb (length rest) 0)
+    by-test (λ _. (1 ≤ number) × (11 ≤ number → number ≡ 16)) (eqb (length rest) 0)
     (λ t. not-both (sym e ∙ read-end (suc more) index rest (eqb-true (length rest) 0 t)))
     (λ t.
     let some = eqb-false (length rest) 0 t in
-    by-test (λ _. (1 ≤ number) × (number ≤ 10)) (eqb (cueRefusal rest) 0)
+    by-test (λ _. (1 ≤ number) × (11 ≤ number → number ≡ 16)) (eqb (cueRefusal rest) 0)
     (λ u. refused-number more (suc index) (afterCue rest) (later-refused (readUpTo more (suc index) (afterCue rest)) (sym (read-next more index rest some (eqb-true (cueRefusal rest) 0 u)) ∙ e)))
-    (λ u. let s = eqb-false (cueRefusal rest) 0 u in let is = ap refusalOf (sym (read-refused more index rest some refl s) ∙ e) in (omega (arith, s, is), omega (arith, cue-most rest, is))))
+    (λ u.
+    let s = eqb-false (cueRefusal rest) 0 u in
+    let is = ap refusalOf (sym (read-refused more index rest some refl s) ∙ e) in
+    (omega (arith, s, is), λ h. sym is ∙ cue-gap rest (omega (arith, is)))))
   where
     later-refused : (r : Reading) → followed (cueOf rest) r ≡ refused number at → r ≡ refused number at
     later-refused (refused n i) e = e
     later-refused (cues cs) e = not-both (sym e)
 
 -- the same of a whole book
-book-number : (book : List ℕ) {number at : ℕ} → readBook book ≡ refused number at → (1 ≤ number) × (number ≤ 10)
+book-number : (book : List ℕ) {number at : ℕ} → readBook book ≡ refused number at → (1 ≤ number) × (11 ≤ number → number ≡ 16)
 unfolding readBook
 book-number book e = refused-number 999 0 book e
 
@@ -144,12 +150,13 @@ refused-book book = by-reading (readBook book)
     by-reading (refused number index) some = refl
     by-reading (cues cs) some = absurd (some refl)
 
-pub book-most : (book : List ℕ) → refusalOf (readBook book) ≤ 10
-book-most book = by-reading (readBook book) refl
+-- a number from 11 on is 16
+pub book-gap : (book : List ℕ) → 11 ≤ refusalOf (readBook book) → refusalOf (readBook book) ≡ 16
+book-gap book = by-reading (readBook book) refl
   where
-    by-reading : (r : Reading) → readBook book ≡ r → refusalOf r ≤ 10
+    by-reading : (r : Reading) → readBook book ≡ r → 11 ≤ refusalOf r → refusalOf r ≡ 16
     by-reading (refused number index) e = book-number book e .1
-    by-reading (cues cs) e = omega arith
+    by-reading (cues cs) e = λ h. absurd (omega arith)
 
 pub accepted-book : (book : List ℕ) → refusalOf (readBook book) ≡ 0 → (readBook book ≡ cues (cuesIn (readBook book))) × (numberOf (readBook book) ≡ length (cuesIn (readBook book)))
 accepted-book book z = by-reading (readBook book) refl
@@ -340,6 +347,67 @@ module _ {book : List ℕ} {index place : ℕ} (a : ReadSoFar book index place) 
   so-far-end h =
       a .whole ∙ ap (followedAll (a .done)) (read-end (a .more) index (drop place book) (omega (arith, length-drop place book))) ∙ all-cues (a .done) [] ∙ ap cues (append-nil (a .done))
 
+-- ---- the cues that play on a day, counted by the walk
+
+pub record Counted (book : List ℕ) (day index place count : ℕ) : Type 0 where
+  pub so-far : ReadSoFar book index place
+  pub plays : count ≡ length (playing day (so-far .done))
+
+pub counted-first : (book : List ℕ) (day : ℕ) → Counted book day 0 0 0
+unfolding so-far-first
+counted-first book day = record { so-far = so-far-first book; plays = ap length (sym (those-nothing (playsOn day))) }
+
+-- there are no more of them than cues
+pub counted-few : {book : List ℕ} {day index place count : ℕ} → Counted book day index place count → count ≤ index
+counted-few {book} {day} a = omega (arith, a .plays, those-few (playsOn day) (a .so-far .done), a .so-far .counted)
+
+-- one cue more
+plays-more : (day : ℕ) (done : List Cue) (c : Cue) → length (playing day (done ++ c ∷ [])) ≡ length (playing day done) + length (playing day (c ∷ []))
+plays-more day done c = ap length (those-append (playsOn day) done (c ∷ [])) ∙ length-append (playing day done) (playing day (c ∷ []))
+
+plays-one : (day : ℕ) (c : Cue) → playsOn day c ≡ true → length (playing day (c ∷ [])) ≡ 1
+unfolding those
+plays-one day c e = rw e
+
+plays-not : (day : ℕ) (c : Cue) → playsOn day c ≡ false → length (playing day (c ∷ [])) ≡ 0
+unfolding those
+plays-not day c e = rw e
+
+module _
+    {book : List ℕ}
+    {day index place count phrase phrase-end ordinal title title-end end : ℕ}
+    {days : Days}
+    (a : Counted book day index place count)
+    (inside : place < length book)
+    (few : index < 999)
+    (c : CueAt book place phrase phrase-end ordinal title title-end days end)
+  where
+    -- it plays, or it does not
+    pub counted-plays : daysHold day days ≡ true → Counted book day (index + 1) end (count + 1)
+    unfolding so-far-next
+    counted-plays e =
+        let d = cueOf (drop place book) in
+        let on : playsOn day d ≡ true = ap (λ (x : Cue). daysHold day (x .days)) (sym (c .meant)) ∙ e in
+        record { so-far = so-far-next (a .so-far) inside few (c .none) (c .end-is); plays = omega (arith, a .plays, plays-more day (a .so-far .done) d, plays-one day d on) }
+
+    pub counted-not : daysHold day days ≡ false → Counted book day (index + 1) end count
+    unfolding so-far-next
+    counted-not e =
+        let d = cueOf (drop place book) in
+        let off : playsOn day d ≡ false = ap (λ (x : Cue). daysHold day (x .days)) (sym (c .meant)) ∙ e in
+        record { so-far = so-far-next (a .so-far) inside few (c .none) (c .end-is); plays = omega (arith, a .plays, plays-more day (a .so-far .done) d, plays-not day d off) }
+
+-- what a book read for a day gives back: by the definition, of a refused book, and of one that is accepted
+pub playing-is : (day : ℕ) (book : List ℕ) → playingAnswer day book ≡ record { refusal = refusalOf (readBook book); number = playingOf day (readBook book) }
+unfolding playingAnswer
+playing-is day book = refl
+
+pub playing-refused : (day : ℕ) (book : List ℕ) {number index : ℕ} → readBook book ≡ refused number index → playingAnswer day book ≡ record { refusal = number; number = index }
+playing-refused day book e = playing-is day book ∙ rw e
+
+pub playing-cues : (day : ℕ) (book : List ℕ) {cs : List Cue} → readBook book ≡ cues cs → playingAnswer day book ≡ record { refusal = 0; number = length (playing day cs) }
+playing-cues day book e = playing-is day book ∙ rw e
+
 -- ---- the wanted cue's title, noted by the walk
 
 -- the part so far: that of the wanted cue once it has been passed
@@ -359,13 +427,19 @@ noted-other {book} {wanted} {index} {p} other n =
     past : index ≤ wanted → index + 1 ≤ wanted
     past h = by-test (λ _. index + 1 ≤ wanted) (eqb index wanted) (λ e. absurd (other (eqb-true index wanted e))) (λ e. omega (arith, eqb-false index wanted e))
 
-module _ {book : List ℕ} {index place phrase phrase-end ordinal title end : ℕ} (a : ReadSoFar book index place) (c : CueAt book place phrase phrase-end ordinal title end) where
-  pub noted-this : {wanted : ℕ} → index ≡ wanted → Noted book wanted (index + 1) (record { start = title; len = end - title })
-  noted-this {wanted} e =
-      let here : cuePlace book wanted ≡ place = ap (cuePlace book) (sym e) ∙ sym (a .here) in
-      let start : title ≡ titleIn book wanted .start = c .title-is ∙ ap (λ (k : ℕ). k + titleStart (drop k book)) (sym here) in
-      let len : end - title ≡ titleLength (drop place book) = omega (arith, title-ends c .0) in
-      record { is = rw (lt-ltb wanted (index + 1) (omega arith)) (ap₂ (λ (s l : ℕ). record { start = s; len = l }) start (len ∙ ap (λ (k : ℕ). titleLength (drop k book)) (sym here))) }
+module _
+    {book : List ℕ}
+    {index place phrase phrase-end ordinal title title-end end : ℕ}
+    {days : Days}
+    (a : ReadSoFar book index place)
+    (c : CueAt book place phrase phrase-end ordinal title title-end days end)
+  where
+    pub noted-this : {wanted : ℕ} → index ≡ wanted → Noted book wanted (index + 1) (record { start = title; len = title-end - title })
+    noted-this {wanted} e =
+        let here : cuePlace book wanted ≡ place = ap (cuePlace book) (sym e) ∙ sym (a .here) in
+        let start : title ≡ titleIn book wanted .start = c .title-is ∙ ap (λ (k : ℕ). k + titleStart (drop k book)) (sym here) in
+        let len : title-end - title ≡ titleLength (drop place book) = omega (arith, title-ends c .0) in
+        record { is = rw (lt-ltb wanted (index + 1) (omega arith)) (ap₂ (λ (s l : ℕ). record { start = s; len = l }) start (len ∙ ap (λ (k : ℕ). titleLength (drop k book)) (sym here))) }
 
 -- what is shown in the end: by the definition, of a refused book, and of one that is accepted
 part-is : (book : List ℕ) (wanted : ℕ) → titlePart book wanted ≡ cond (ltb wanted (length (cuesIn (readBook book)))) (titleIn book wanted) front

@@ -13,14 +13,20 @@ use Rattle.cues.specs.Cue.{Cue}
 use Rattle.cues.specs.Reading.{cueSize}
 use Rattle.cues.specs.Places.{cueNumber, cueEnd, cuesMeant, titleStart, titleLength}
 use Rattle.matching.specs.declared.Answer.{Answer}
+use Rattle.matching.specs.Joined.{those}
 use Rattle.cue_book.specs.declared.Part.{Part}
-use Rattle.cue_book.specs.Reading.{readBook, refusalOf, numberOf, cuesIn, titleAt}
+use Rattle.cue_book.specs.Reading.{readBook, refusalOf, numberOf, playingOf, cuesIn, titleAt}
 
 -- ---- a book
 
 -- what a book read gives back
 abbrev pub bookAnswer : List ℕ → Answer
 bookAnswer book = record { refusal = refusalOf (readBook book); number = numberOf (readBook book) }
+
+-- what a book read for a day gives back
+unfoldable pub playingAnswer : ℕ → List ℕ → Answer
+unfolding readBook those
+playingAnswer day book = record { refusal = refusalOf (readBook book); number = playingOf day (readBook book) }
 
 -- where the cue of that index begins: after the one before it
 unfoldable pub cuePlace : List ℕ → ℕ → ℕ

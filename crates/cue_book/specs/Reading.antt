@@ -1,11 +1,12 @@
--- What reading a book gives on every byte string (document 01, "Cue book, folding, lines"), with the tests in the document's order. `rest` is what is left of the book at a cue.
+-- What reading a book gives on every byte string (document 01, "Cue book, folding, lines"; document 02, (viii)), with the tests in the document's order. `rest` is what is left of the book at a cue.
 use Prim.Native.Nat.{ℕ, zero, suc}
 use mathlib.Core.Bool.{cond}
 use mathlib.Core.List.{List, [], _∷_}
 use lib.ListN.{length}
 use lib.Dec.{eqb}
 use Rattle.cue_fields.specs.Form.{formSize}
-use Rattle.cues.specs.Cue.{Cue}
+use Rattle.matching.specs.Joined.{those}
+use Rattle.cues.specs.Cue.{Cue, playsOn}
 use Rattle.cues.specs.Reading.{cueRefusal, cueOf, afterCue}
 
 -- what reading a book gives: a refusal with the index of its cue, or the cues
@@ -39,6 +40,15 @@ refusalOf (cues cs) = 0
 abbrev pub numberOf : Reading → ℕ
 numberOf (refused number index) = index
 numberOf (cues cs) = length cs
+
+-- the cues that play on a day, in the book's order
+abbrev pub playing : ℕ → List Cue → List Cue
+playing day cs = those (playsOn day) cs
+
+-- the second number that reading a book for a day gives back: the refused cue's index, or the number of cues that play
+abbrev pub playingOf : ℕ → Reading → ℕ
+playingOf day (refused number index) = index
+playingOf day (cues cs) = length (playing day cs)
 
 -- the cues that were read; none where the book is refused
 abbrev pub cuesIn : Reading → List Cue

@@ -1,6 +1,6 @@
 -- The tests of a field: what is known where it is read (`Fielded`), its answer by its cases, and an answer taken apart. Assumes nothing.
 use mathlib.Core.Path.{_≡_, refl, sym, ap, ap₂, _∙_}
-use Prim.Native.Nat.{ℕ, _+_, _-_, _≤_}
+use Prim.Native.Nat.{ℕ, _+_, _-_, _≤_, _<_}
 use native.Mathlib.Omega.{arith}
 use mathlib.Core.Bool.{Bool, true, false, not}
 use mathlib.Core.List.{List, [], _∷_}
@@ -8,11 +8,11 @@ use lib.ListN.{length, getD, take, drop, length-drop}
 use lib.Seq.{drop-drop}
 use lib.Dec.{eqb}
 use denote.Enum.Declared as declared
-use borrow.Author.Tests.{eq-eqb, ne-eqb, eqb-true, ltb-false, le-ltb}
+use borrow.Author.Tests.{eq-eqb, ne-eqb, eqb-true, ltb-false, lt-ltb, le-ltb}
 use Rattle.matching.specs.Refusals.{firstMet}
-use Rattle.matching.proofs.Refusals.{Passed, none-met, numbersTo, all-passed, met-most}
+use Rattle.matching.proofs.Refusals.{Passed, none-met, numbersTo, all-passed, gapped, met-gap}
 use Rattle.cue_fields.specs.declared.Due.{Due}
-use Rattle.cue_fields.specs.declared.Due.the-variants.{Phrase, Ordinal, Title}
+use Rattle.cue_fields.specs.declared.Due.the-variants.{Phrase, Ordinal, Title, Dates}
 use Rattle.cue_fields.specs.declared.FieldAnswer.{FieldAnswer}
 use Rattle.cue_fields.specs.declared.FieldAnswer.the-variants.{Body, Refused}
 use Rattle.cue_fields.proofs.FieldAnswer as answers
@@ -20,16 +20,24 @@ use Rattle.cue_fields.specs.Field.{tagOf, allowed, valueTests, fieldTest
 
 -- ---- a field that is read
 
--- every refusal of a field is 7, 8 or 9
-field-numbers : (due : Due) (rest : List ℕ) → numbersTo 9 (fieldTests due rest) ≡ true
-unfolding numbersTo
-field-numbers Phrase rest = refl
-field-numbers Ordinal rest = refl
-field-numbers Title rest = refl
+-- every refusal of a field is 7, 8, 9 or 16
+field-numbers : (due : Due) (rest : List ℕ) → (numbersTo 16 (fieldTests due rest) ≡ true) × (gapped 10 16 (fieldTests due rest) ≡ true)
+unfolding numbersTo gapped
+field-numbers Phrase rest = (refl, refl)
+field-numbers Ordinal rest = (refl, refl)
+field-numbers Title rest = (refl, refl)
+field-numbers Dates rest = (refl, refl)
 
-pub field-most : (due : Due) (rest : List ℕ) → fieldRefusal due rest ≤ 9
+-- so one from 10 on is 16
+pub field-gap : (due : Due) (rest : List ℕ) → 10 ≤ fieldRefusal due rest → fieldRefusal due rest ≡ 16
 unfolding fieldRefusal
-field-most due rest = met-most 9 (fieldTests due rest) (field-numbers due rest)
+field-gap due rest h = met-gap 10 16 (fieldTests due rest) (field-numbers due rest .1) (omega arith) h
+
+-- the body's presence is tested before its value: a field cut within its body is refused with 7, whatever it would be worth
+pub cut-first : (due : Due) (rest : List ℕ) → 3 ≤ length rest → getD rest 0 0 ≡ tagOf due → allowed due (fieldLength rest) ≡ true → length rest < fieldSize rest → fieldRefusal due rest ≡ 7
+unfolding fieldRefusal firstMet
+cut-first due rest header tag lengths cut =
+    rw (le-ltb (length rest) 3 header, eq-eqb (getD rest 0 0) (tagOf due) tag, lengths, lt-ltb (length (drop 3 rest)) (fieldLength rest) (omega (arith, header, length-drop 3 rest))) refl
 
 -- what its tests say where all are passed
 pub record Fielded (due : Due) (rest : List ℕ) : Type 0 where
@@ -47,7 +55,7 @@ passed false e = sym e
 pub fielded : (due : Due) (rest : List ℕ) → fieldRefusal due rest ≡ 0 → Fielded due rest
 unfolding fieldRefusal Passed
 fielded due rest e =
-    let p = all-passed 9 (fieldTests due rest) (field-numbers due rest) e in
+    let p = all-passed 16 (fieldTests due rest) (field-numbers due rest .0) e in
     let header = ltb-false (length rest) 3 (p .0) in
     record {
       header = header;
@@ -107,11 +115,11 @@ unfoldable pub firstOf : {A : Type 0} → A → List A → A
 firstOf other [] = other
 firstOf other (x ∷ xs) = x
 
-startOf : FieldAnswer → ℕ
+unfoldable pub startOf : FieldAnswer → ℕ
 startOf (Body start end) = start
 startOf (Refused number) = 0
 
-endOf : FieldAnswer → ℕ
+unfoldable pub endOf : FieldAnswer → ℕ
 endOf (Body start end) = end
 endOf (Refused number) = 0
 

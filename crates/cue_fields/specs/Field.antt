@@ -1,4 +1,4 @@
--- A field of a cue book (document 01, "Cue book, folding, lines"): its bytes, and what reading it gives on every byte string, with the tests in the document's order. `rest` is what is
+-- A field of a cue book (document 01, "Cue book, folding, lines"; document 02, (viii)): its bytes, and what reading it gives on every byte string, with the tests in the document's order. `rest` is what is
 -- left of the book at the field.
 use mathlib.Core.Path.{_≡_}
 use Prim.Native.Nat.{ℕ, _+_, _-_, _*_, _/_, _%_}
@@ -7,8 +7,9 @@ use mathlib.Core.List.{List, [], _∷_, _++_}
 use lib.ListN.{length, getD, take, drop}
 use lib.Dec.{eqb, ltb, leb}
 use Rattle.matching.specs.Refusals.{Test, firstMet}
+use Rattle.calendar.specs.Calendar.{daysTests}
 use Rattle.cue_fields.specs.declared.Due.{Due}
-use Rattle.cue_fields.specs.declared.Due.the-variants.{Phrase, Ordinal, Title}
+use Rattle.cue_fields.specs.declared.Due.the-variants.{Phrase, Ordinal, Title, Dates}
 use Rattle.cue_fields.specs.declared.FieldAnswer.{FieldAnswer}
 use Rattle.cue_fields.specs.declared.FieldAnswer.the-variants.{Body, Refused}
 
@@ -29,12 +30,14 @@ abbrev pub tagOf : Due → ℕ
 tagOf Phrase = 1
 tagOf Ordinal = 2
 tagOf Title = 3
+tagOf Dates = 4
 
 -- the lengths that its body may have
 abbrev pub allowed : Due → ℕ → Bool
 allowed Phrase n = leb 1 n && leb n 1024
 allowed Ordinal n = eqb n 2
 allowed Title n = leb n 200
+allowed Dates n = eqb n 4
 
 -- the number whose two bytes stand at the front, high byte first; a byte that is missing counts as 0
 unfoldable pub numberIn : List ℕ → ℕ
@@ -53,11 +56,19 @@ fieldSize rest = 3 + fieldLength rest
 abbrev pub afterField : List ℕ → List ℕ
 afterField rest = drop (fieldSize rest) rest
 
--- the tests of its body's value: an ordinal is not 0 (9)
+-- the two days of dates: the first, and the last after it
+abbrev pub firstIn : List ℕ → ℕ
+firstIn body = numberIn body
+
+abbrev pub lastIn : List ℕ → ℕ
+lastIn body = numberIn (drop 2 body)
+
+-- the tests of its body's value: an ordinal is not 0 (9), and dates are days of the calendar, the first not after the last (16)
 abbrev pub valueTests : Due → List ℕ → List Test
 valueTests Phrase body = []
 valueTests Ordinal body = (eqb (numberIn body) 0, 9) ∷ []
 valueTests Title body = []
+valueTests Dates body = daysTests (firstIn body) (lastIn body)
 
 -- the tests of the bytes from the body onward, for a body of n bytes: body present (7), and its value
 abbrev pub bodyTests : Due → ℕ → List ℕ → List Test

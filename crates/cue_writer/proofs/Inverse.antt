@@ -13,10 +13,10 @@ use Rattle.cue_fields.specs.Form.{Bytes}
 use Rattle.cue_fields.proofs.Form.{bytes-drop}
 use Rattle.cues.specs.declared.CueAnswer.{CueAnswer}
 use Rattle.cues.specs.Cue.{Cue, cueBytes, Valid}
-use Rattle.cues.specs.Reading.{afterCue, cueSize}
+use Rattle.cues.specs.Reading.{afterCue, cueSize, Apart}
 use Rattle.cues.specs.Places.{cueEnd, cuesMeant, CueRead}
 use Rattle.cues.proofs.Cues.{cue-inside, cue-some}
-use Rattle.cues.proofs.Values.{cue-back, cue-put}
+use Rattle.cues.proofs.Values.{cue-back, cue-apart, cue-put}
 use Rattle.matching.specs.declared.Answer.{Answer}
 use Rattle.cue_book.specs.Book.{bookBytes, AllValid}
 use Rattle.cue_book.specs.Reading.{cues, followed, readUpTo, readBook, refusalOf, cuesIn}
@@ -28,13 +28,19 @@ use Rattle.cue_writer.proofs.Writing.{fitting}
 
 -- ---- what is written reads back
 
+-- the bytes of cues stand apart from a cue before them: each begins with the tag of its phrase, and of no cue there is no byte
+book-apart : (cs : List Cue) → Apart (bookBytes cs)
+unfolding bookBytes
+book-apart [] z = omega (arith, z)
+book-apart (c ∷ cs) z = cue-apart c (bookBytes cs) z
+
 -- the bytes of valid cues, of which there are no more than may be read
 reads : (cs : List Cue) (more index : ℕ) → AllValid cs → length cs ≤ more → readUpTo more index (bookBytes cs) ≡ cues cs
 unfolding bookBytes AllValid
 reads [] more index v h = read-end more index [] refl
 reads (c ∷ cs) zero index v h = absurd (omega arith)
 reads (c ∷ cs) (suc more) index v h =
-    let b = cue-back c (v .0) (bookBytes cs) in
+    let b = cue-back c (v .0) (bookBytes cs) (book-apart cs) in
     let rest : List ℕ = cueBytes c ++ bookBytes cs in
     read-next more index rest (cue-some rest (b .none)) (b .none)
     ∙ ap₂ (λ (d : Cue) (l : List ℕ). followed d (readUpTo more (suc index) l)) (b .value) (b .after)
@@ -45,10 +51,10 @@ pub written-reads : (cs : List Cue) → AllValid cs → length cs ≤ 999 → re
 unfolding readBook
 written-reads cs v h = reads cs 999 0 v h
 
--- a valid cue takes as many bytes as it has
-cue-length : (c : Cue) → Valid c → (more : List ℕ) → cueSize (cueBytes c ++ more) ≡ length (cueBytes c)
-cue-length c v more =
-    let b = cue-back c v more in
+-- a valid cue takes as many bytes as it has, before anything that stands apart
+cue-length : (c : Cue) → Valid c → (more : List ℕ) → Apart more → cueSize (cueBytes c ++ more) ≡ length (cueBytes c)
+cue-length c v more apart =
+    let b = cue-back c v more apart in
     let rest : List ℕ = cueBytes c ++ more in
     let left : length rest - cueSize rest ≡ length more = sym (length-drop (cueSize rest) rest) ∙ ap length (b .after) in
     omega (arith, left, cue-inside rest (b .none), length-append (cueBytes c) more)
@@ -59,8 +65,9 @@ unfolding bookBytes AllValid cuePlace
 written-place [] later v = refl
 written-place (b ∷ before) later v =
     let more : List ℕ = bookBytes (before ++ later) in
+    let apart : Apart more = book-apart (before ++ later) in
     place-next (cueBytes b ++ more) (length before)
-    ∙ ap₂ (λ (n : ℕ) (l : List ℕ). n + cuePlace l (length before)) (cue-length b (v .0) more) (cue-back b (v .0) more .after)
+    ∙ ap₂ (λ (n : ℕ) (l : List ℕ). n + cuePlace l (length before)) (cue-length b (v .0) more apart) (cue-back b (v .0) more apart .after)
     ∙ ap (λ (n : ℕ). length (cueBytes b) + n) (written-place before later (v .1))
     ∙ sym (length-append (cueBytes b) (bookBytes before))
 

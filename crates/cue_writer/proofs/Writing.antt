@@ -2,24 +2,45 @@
 use mathlib.Core.Path.{_≡_, refl, ap, ap₂, _∙_}
 use Prim.Native.Nat.{ℕ, _+_, _≤_}
 use native.Mathlib.Omega.{arith}
+use mathlib.Core.Bool.{cond}
 use mathlib.Core.List.{List, [], _∷_, _++_, append-nil}
 use lib.ListN.{length, drop, length-append}
-use borrow.Author.Tests.{eq-eqb, ne-eqb, ltb-false, eqb-false}
+use lib.Dec.{eqb}
+use borrow.Author.Tests.{eq-eqb, ne-eqb, ltb-false, eqb-true, eqb-false, not-false}
+use Rattle.matching.specs.Refusals.{firstMet}
 use Rattle.matching.proofs.Refusals.{Passed, numbersTo, all-passed}
+use Rattle.matching.proofs.CaseAnalysis.{by-test}
 use Rattle.pieces.specs.Pieces.{joined, putAll, Laid}
 use Rattle.pieces.proofs.Laid.{laid-front, joined-append}
 use Rattle.cue_fields.specs.declared.Due.{Due}
+use Rattle.cue_fields.specs.declared.Due.the-variants.{Dates}
 use Rattle.cue_fields.specs.Field.{tagOf, twoBytes, fieldBytes}
-use Rattle.cue_fields.specs.Form.{formBytes}
-use Rattle.cues.specs.Cue.{Cue, cueForm, cueBodies, cueBytes, Valid}
-use Rattle.cue_writer.specs.Writing.{writeTests, writeRefusal, Written, fieldPieces}
+use Rattle.cue_fields.specs.Form.{leftOut, dueBytes, formBytes}
+use Rattle.cues.specs.declared.Days.{Days}
+use Rattle.cues.specs.declared.Days.the-variants.{Always, Within}
+use Rattle.cues.specs.Cue.{Cue, cueForm, daysBody, cueBodies, cueBytes, datesRefusal, Valid}
+use Rattle.cue_writer.specs.Writing.{writeTests, writeRefusal, Written, fieldPieces, duePieces}
 
 -- a cue's length
-pub cue-length : (c : Cue) → length (cueBytes c) ≡ 11 + length (c .phrase) + length (c .title)
+pub cue-length : (c : Cue) → length (cueBytes c) ≡ 11 + length (c .phrase) + length (c .title) + length (dueBytes Dates (daysBody (c .days)))
 unfolding cueBytes formBytes
 cue-length c =
-    let title : List ℕ = fieldBytes 3 (c .title) ++ [] in
-    omega (arith, length-append (fieldBytes 1 (c .phrase)) (fieldBytes 2 (twoBytes (c .ordinal)) ++ title), length-append (fieldBytes 3 (c .title)) [])
+    let dates : List ℕ = dueBytes Dates (daysBody (c .days)) in
+    let title : List ℕ = fieldBytes 3 (c .title) ++ (dates ++ []) in
+    omega
+    (arith, length-append (fieldBytes 1 (c .phrase)) (fieldBytes 2 (twoBytes (c .ordinal)) ++ title), length-append (fieldBytes 3 (c .title)) (dates ++ []), length-append dates [])
+
+-- its dates take at most 7 bytes
+pub dates-most : (d : Days) → length (dueBytes Dates (daysBody d)) ≤ 7
+dates-most Always = omega arith
+dates-most (Within first last) = omega arith
+
+-- ---- the refusals
+
+-- a cue whose days are refused is refused with 16, whatever else is wrong with it
+pub days-first : (c : Cue) (capacity : ℕ) → (datesRefusal (c .days) ≡ 0 → ⊥) → writeRefusal c capacity ≡ 16
+unfolding writeRefusal firstMet
+days-first c capacity some = rw (ne-eqb (datesRefusal (c .days)) 0 some) refl
 
 -- ---- a cue that is written is valid, and fits
 
@@ -30,7 +51,8 @@ pub record Fitting (c : Cue) (capacity : ℕ) : Type 0 where
 pub fitting : (c : Cue) (capacity : ℕ) → writeRefusal c capacity ≡ 0 → Fitting c capacity
 unfolding writeRefusal Passed numbersTo
 fitting c capacity e =
-    let p = all-passed 13 (writeTests c capacity) refl e in
+    let dated = all-passed 16 (writeTests c capacity) refl e in
+    let p = dated .1 in
     let named = p .1 .1 in
     let shown = named .1 .1 in
     record {
@@ -41,6 +63,7 @@ fitting c capacity e =
             named = omega (arith, eqb-false (c .ordinal) 0 (named .0));
             small = ltb-false 65535 (c .ordinal) (named .1 .0);
             shown = ltb-false 200 (length (c .title)) (shown .0);
+            dated = eqb-true (datesRefusal (c .days)) 0 (not-false (eqb (datesRefusal (c .days)) 0) (dated .0));
           };
       fits = ltb-false capacity (length (cueBytes c)) (shown .1 .0);
     }
@@ -50,15 +73,22 @@ fitting c capacity e =
 unfoldable pub formPieces : List Due → List (List ℕ) → List (List ℕ)
 formPieces [] bodies = []
 formPieces (due ∷ dues) [] = []
-formPieces (due ∷ dues) (body ∷ bodies) = fieldPieces (tagOf due) body ++ formPieces dues bodies
+formPieces (due ∷ dues) (body ∷ bodies) = duePieces due body ++ formPieces dues bodies
+
+-- the pieces of one field are its bytes
+joined-due : (due : Due) (body : List ℕ) → joined (duePieces due body) ≡ dueBytes due body
+unfolding joined
+joined-due due body =
+    by-test (λ t. joined (cond t [] (fieldPieces (tagOf due) body)) ≡ cond t [] (fieldBytes (tagOf due) body)) (leftOut due body)
+    (λ _. refl)
+    (λ _. ap (λ (l : List ℕ). tagOf due ∷ (twoBytes (length body) ++ l)) (append-nil body))
 
 joined-form : (dues : List Due) (bodies : List (List ℕ)) → joined (formPieces dues bodies) ≡ formBytes dues bodies
 unfolding joined formPieces formBytes
 joined-form [] bodies = refl
 joined-form (due ∷ dues) [] = refl
 joined-form (due ∷ dues) (body ∷ bodies) =
-    joined-append (fieldPieces (tagOf due) body) (formPieces dues bodies)
-    ∙ ap₂ (λ (x l : List ℕ). (tagOf due ∷ (twoBytes (length body) ++ x)) ++ l) (append-nil body) (joined-form dues bodies)
+    joined-append (duePieces due body) (formPieces dues bodies) ∙ ap₂ (λ (x l : List ℕ). x ++ l) (joined-due due body) (joined-form dues bodies)
 
 abbrev pub cuePieces : Cue → List (List ℕ)
 cuePieces c = formPieces cueForm (cueBodies c)

@@ -1,18 +1,21 @@
--- Writing a cue (document 01, "Cue book, folding, lines"): it stands at the buffer's start, or the refusal is given.
+-- Writing a cue (document 01, "Cue book, folding, lines"; document 02, (viii)): it stands at the buffer's start, or the refusal is given.
 use mathlib.Core.Path.{_≡_}
 use Prim.Native.Nat.{ℕ}
-use mathlib.Core.Bool.{Bool, cond}
+use mathlib.Core.Bool.{Bool, cond, not}
 use mathlib.Core.List.{List, [], _∷_, _++_}
 use lib.ListN.{length, drop}
 use lib.Dec.{eqb, ltb}
 use Rattle.matching.specs.Refusals.{Test, firstMet}
-use Rattle.cue_fields.specs.Field.{twoBytes}
-use Rattle.cues.specs.Cue.{Cue, cueBytes}
+use Rattle.cue_fields.specs.declared.Due.{Due}
+use Rattle.cue_fields.specs.Field.{tagOf, twoBytes}
+use Rattle.cue_fields.specs.Form.{leftOut}
+use Rattle.cues.specs.Cue.{Cue, cueBytes, datesRefusal}
 use Rattle.matching.specs.declared.Answer.{Answer}
 
--- the refusals of a cue in a buffer of that capacity: a phrase of 0 bytes (2) or above 1,024 (3), an ordinal outside 1 to 65,535 or a title above 200 (9), longer than the buffer (13)
+-- the refusals of a cue in a buffer of that capacity: first of all the days, which are the call's own date (16; document 02, (viii)); then a phrase of 0 bytes (2) or above 1,024 (3), an ordinal outside 1 to 65,535 or a title above 200 (9), longer than the buffer (13)
 abbrev pub writeTests : Cue → ℕ → List Test
 writeTests c capacity =
+    (not (eqb (datesRefusal (c .days)) 0), 16) ∷
     (eqb (length (c .phrase)) 0, 2) ∷
     (ltb 1024 (length (c .phrase)), 3) ∷
     (eqb (c .ordinal) 0, 9) ∷
@@ -21,6 +24,7 @@ writeTests c capacity =
     (ltb capacity (length (cueBytes c)), 13) ∷
     []
 
+-- the first of them, 0 for none
 unfoldable pub writeRefusal : Cue → ℕ → ℕ
 unfolding firstMet cueBytes
 writeRefusal c capacity = firstMet (writeTests c capacity)
@@ -39,3 +43,7 @@ pub record Written (c : Cue) (buffer : List ℕ) (r : Answer) (buffer′ : List 
 -- a field in two pieces, its header and its body
 abbrev pub fieldPieces : ℕ → List ℕ → List (List ℕ)
 fieldPieces tag body = (tag ∷ twoBytes (length body)) ∷ body ∷ []
+
+-- the pieces of a field with this body: none where it is left out
+abbrev pub duePieces : Due → List ℕ → List (List ℕ)
+duePieces due body = cond (leftOut due body) [] (fieldPieces (tagOf due) body)

@@ -1,18 +1,44 @@
-// This crate writes a cue (document 01, "Cue book, folding, lines").
-// It depends on `cues` and `cue_book` for the format, on `cue_fields` for a field's bytes, on `pieces` for laying them out, and on `matching` for its tables of refusals and the answer that a call gives.
+// This crate writes a cue, with its dates where it has any (document 01, "Cue book, folding, lines"; document 02, (viii)).
+// It depends on `cues` and `cue_book` for the format, on `cue_fields` for a field's bytes, on `calendar` for the days that there are, on `pieces` for laying the fields out, and on `matching` for its tables of refusals and the answer that a call gives.
 // Demand 2 is carried by proofs/Inverse.antt: what is written reads back (`written-reads`), and what is accepted was so written (`accepted-written`).
+use cues::Days;
 use matching::Answer;
 ghost use mathlib.Core.Path.{_≡_};
 ghost use Prim.Native.Nat.{_≤_};
 ghost use lib.ListN.{length};
 ghost use Rattle.pieces.specs.Pieces.{Laid, putAll};
-ghost use Rattle.cues.specs.Cue.{cueWith};
-ghost use Rattle.cue_writer.specs.Writing.{writeRefusal, Written, fieldPieces};
+ghost use Rattle.cue_fields.specs.declared.Due.the-variants.{Dates};
+ghost use Rattle.cue_fields.specs.Form.{dueBytes};
+ghost use Rattle.cues.specs.Cue.{cueWith, daysBody, datesRefusal};
+ghost use Rattle.cue_writer.specs.Writing.{writeRefusal, Written, fieldPieces, duePieces};
+
+// The refusal of a cue's days, 0 for none.
+fn dates_refused(days: Days) -> u32
+    ensures { λ r. ⌜ r ≡ datesRefusal days ⌝ }
+{
+    match days {
+        Days::Always => 0,
+        Days::Within { first, last } => calendar::days_refused(first, last),
+    }
+}
+
+// The length of the dates: a cue that plays always has none.
+fn dates_len(days: Days) -> usize
+    ensures { λ r. ⌜ r ≡ length (dueBytes Dates (daysBody days)) ⌝ }
+{
+    match days {
+        Days::Always => 0,
+        Days::Within { first: _, last: _ } => 7,
+    }
+}
 
 // The refusal of a cue to be written into a buffer of so many bytes, 0 for none.
-fn write_refusal(phrase: &[u8], ordinal: u32, title: &[u8], capacity: usize) -> u32
-    ensures { λ r. ⌜ r ≡ writeRefusal (cueWith (now (phrase .entry)) ordinal (now (title .entry))) capacity ⌝ }
+fn write_refusal(phrase: &[u8], ordinal: u32, title: &[u8], days: Days, capacity: usize) -> u32
+    ensures { λ r. ⌜ r ≡ writeRefusal (cueWith (now (phrase .entry)) ordinal (now (title .entry)) days) capacity ⌝ }
 {
+    if dates_refused(days) != 0 {
+        return 16;
+    }
     if phrase.len() == 0 {
         return 2;
     }
@@ -28,7 +54,7 @@ fn write_refusal(phrase: &[u8], ordinal: u32, title: &[u8], capacity: usize) -> 
     if 200 < title.len() {
         return 9;
     }
-    if capacity < 11 + phrase.len() + title.len() {
+    if capacity < 11 + phrase.len() + title.len() + dates_len(days) {
         return 13;
     }
     0
@@ -45,11 +71,27 @@ fn put_field(buffer: &mut [u8], at: usize, tag: u8, body: &[u8]) -> usize
     pieces::put_bytes(buffer, next, body)
 }
 
-// Writes a cue at the buffer's start: 0 and its length, or the refusal and 0.
-pub fn write_cue(buffer: &mut [u8], phrase: &[u8], ordinal: u32, title: &[u8]) -> Answer
-    ensures { λ r. ⌜ Written (cueWith (now (phrase .entry)) ordinal (now (title .entry))) (now (buffer .entry)) r (now (buffer .exit)) ⌝ }
+// Lays the dates out in the buffer from `at` on, where the cue has any: where the cue ends.
+fn put_dates(buffer: &mut [u8], at: usize, days: Days) -> usize
+    requires { ⌜ datesRefusal days ≡ 0 ⌝ }
+    ensures { λ r. ⌜ Laid (now (buffer .exit)) r (putAll (now (buffer .entry)) at (duePieces Dates (daysBody days))) ⌝ }
 {
-    let refusal = write_refusal(phrase, ordinal, title, buffer.len());
+    let Days::Within { first, last } = days else {
+        return at;
+    };
+    let first_high = (first / 256) as u8;
+    let first_low = (first % 256) as u8;
+    let last_high = (last / 256) as u8;
+    let last_low = (last % 256) as u8;
+    let dates = [first_high, first_low, last_high, last_low];
+    put_field(buffer, at, 4, &dates)
+}
+
+// Writes a cue at the buffer's start: 0 and its length, or the refusal and 0.
+pub fn write_cue(buffer: &mut [u8], phrase: &[u8], ordinal: u32, title: &[u8], days: Days) -> Answer
+    ensures { λ r. ⌜ Written (cueWith (now (phrase .entry)) ordinal (now (title .entry)) days) (now (buffer .entry)) r (now (buffer .exit)) ⌝ }
+{
+    let refusal = write_refusal(phrase, ordinal, title, days, buffer.len());
     if refusal != 0 {
         return Answer { refusal, number: 0 };
     }
@@ -57,6 +99,7 @@ pub fn write_cue(buffer: &mut [u8], phrase: &[u8], ordinal: u32, title: &[u8]) -
     let mut at = put_field(buffer, 0, 1, phrase);
     at = put_field(buffer, at, 2, &number);
     at = put_field(buffer, at, 3, title);
+    at = put_dates(buffer, at, days);
     let length = at as u32;
     Answer {
         refusal: 0,

@@ -8,30 +8,38 @@ use lib.Dec.{leb}
 use denote.Enum.Declared as declared
 use borrow.Author.Tests.{eq-eqb, ne-eqb, leb-true}
 use Rattle.matching.proofs.CaseAnalysis.{both}
-use Rattle.cue_fields.specs.declared.Due.the-variants.{Phrase, Ordinal, Title}
+use Rattle.cue_fields.specs.declared.Due.the-variants.{Phrase, Ordinal, Title, Dates}
 use Rattle.cue_fields.specs.Field.{numberIn, fieldLength, fieldSize, fieldBody, afterField, part}
-use Rattle.cue_fields.specs.Form.{formSize, afterForm, formBodies}
-use Rattle.cue_fields.proofs.Fields.{Fielded, BodyAt, told-apart, firstOf}
-use Rattle.cue_fields.proofs.Form.{form-none, form-fine, form-most, form-inside, after-next}
-use Rattle.cue_fields.proofs.Steps.{step-refusal, step-size, step-bodies}
+use Rattle.cue_fields.specs.Form.{dueSize, dueBody, formSize, afterForm, formBodies}
+use Rattle.cue_fields.proofs.Fields.{Fielded, after-field, told-apart, firstOf}
+use Rattle.cue_fields.proofs.Form.{due-fielded, form-none, form-fine, form-gap, form-inside, after-next}
+use Rattle.cue_fields.proofs.Steps.{DueAt, step-refusal, step-size, step-bodies}
 use Rattle.cues.specs.declared.CueAnswer.{CueAnswer}
 use Rattle.cues.specs.declared.CueAnswer.the-variants as answer
 use Rattle.cues.proofs.CueAnswer as answers
-use Rattle.cues.specs.Cue.{Cue, cueWith, cueForm, headForm, cueFrom}
+use Rattle.cues.specs.declared.Days.{Days}
+use Rattle.cues.specs.Cue.{Cue, cueWith, cueForm, headForm, daysFrom, cueFrom}
 use Rattle.cues.specs.Reading.{cueRefusal, cueSize, cueOf}
-use Rattle.cues.specs.Places.{cueNumber, cueEnd, cuesMeant, titleStart, titleLength, cueAt, CueRead}
+use Rattle.cues.specs.Places.{cueNumber, cueEnd, cuesMeant, titleStart, titleLength, titleEnd, cueAt, CueRead}
 
 -- ---- a cue, from what is left of the book
 
 module _ (rest : List ℕ) where
-  pub cue-most : cueRefusal rest ≤ 9
+  -- a refusal from 10 on is 16
+  pub cue-gap : 10 ≤ cueRefusal rest → cueRefusal rest ≡ 16
   unfolding cueRefusal
-  cue-most = form-most cueForm rest
+  cue-gap h = form-gap cueForm rest h
 
-  -- one that is read begins with a phrase, takes some bytes, and no more than there are
+  -- one that is read begins with a phrase and an ordinal, takes some bytes, and no more than there are
   pub cue-phrase : cueRefusal rest ≡ 0 → Fielded Phrase rest
   unfolding cueRefusal
-  cue-phrase e = form-fine Phrase (Ordinal ∷ Title ∷ []) rest e .0
+  cue-phrase e = due-fielded Phrase rest refl (form-fine Phrase (Ordinal ∷ Title ∷ Dates ∷ []) rest e .0)
+
+  pub cue-ordinal : cueRefusal rest ≡ 0 → Fielded Ordinal (afterField rest)
+  unfolding cueRefusal dueSize
+  cue-ordinal e =
+      let f = form-fine Phrase (Ordinal ∷ Title ∷ Dates ∷ []) rest e .1 in
+      due-fielded Ordinal (afterField rest) refl (form-fine Ordinal (Title ∷ Dates ∷ []) (afterField rest) f .0)
 
   pub cue-some : cueRefusal rest ≡ 0 → length rest ≡ 0 → ⊥
   cue-some e z = omega (arith, cue-phrase e .header)
@@ -40,17 +48,22 @@ module _ (rest : List ℕ) where
   unfolding cueRefusal
   cue-inside e = form-inside cueForm rest e
 
-  -- its title is the body of the field after the first two, and ends where the cue does
+  -- its ordinal is in the body of the second field
+  pub ordinal-body : numberIn (fieldBody (afterField rest)) ≡ cueOf rest .ordinal
+  unfolding cueOf formBodies dueSize dueBody
+  ordinal-body = refl
+
+  -- its title is the body of the field after the first two, and ends no later than the cue does
   after-head : afterForm headForm rest ≡ afterField (afterField rest)
-  unfolding formSize
+  unfolding formSize dueSize
   after-head = after-next Phrase (Ordinal ∷ []) rest ∙ after-next Ordinal [] (afterField rest)
 
   pub title-body : fieldBody (afterForm headForm rest) ≡ cueOf rest .title
-  unfolding cueOf formBodies
+  unfolding cueOf formBodies dueSize dueBody
   title-body = ap fieldBody after-head
 
-  pub title-last : cueSize rest ≡ titleStart rest + titleLength rest
-  unfolding formSize
+  pub title-last : titleEnd rest ≤ cueSize rest
+  unfolding formSize dueSize
   title-last = omega (arith, ap fieldLength after-head)
 
 -- ---- where a cue stands in the book
@@ -65,67 +78,91 @@ module _ (book : List ℕ) (place : ℕ) where
 -- its fields, read one after another
 module _
     {book : List ℕ}
-    {place phrase phrase-end body ordinal-end title end : ℕ}
-    (p : BodyAt book place Phrase phrase phrase-end)
-    (o : BodyAt book phrase-end Ordinal body ordinal-end)
-    (t : BodyAt book ordinal-end Title title end)
+    {place phrase phrase-end body ordinal-end title title-end dates end : ℕ}
+    (p : DueAt book place Phrase phrase phrase-end)
+    (o : DueAt book phrase-end Ordinal body ordinal-end)
+    (t : DueAt book ordinal-end Title title title-end)
+    (d : DueAt book title-end Dates dates end)
   where
     fields-none : cueRefusal (drop place book) ≡ 0
     unfolding cueRefusal
-    fields-none = step-refusal p (Ordinal ∷ Title ∷ []) ∙ step-refusal o (Title ∷ []) ∙ step-refusal t [] ∙ form-none (drop end book) .0
+    fields-none = step-refusal p (Ordinal ∷ Title ∷ Dates ∷ []) ∙ step-refusal o (Title ∷ Dates ∷ []) ∙ step-refusal t (Dates ∷ []) ∙ step-refusal d [] ∙ form-none (drop end book) .0
 
-    fields-value : cueWith (part book phrase phrase-end) (numberIn (part book body ordinal-end)) (part book title end) ≡ cueOf (drop place book)
+    fields-value : cueWith (part book phrase phrase-end) (numberIn (part book body ordinal-end)) (part book title title-end) (daysFrom (part book dates end)) ≡ cueOf (drop place book)
     unfolding cueOf
     fields-value =
-        let third = step-bodies t [] ∙ ap (λ (l : List (List ℕ)). part book title end ∷ l) (form-none (drop end book) .2) in
-        let second = step-bodies o (Title ∷ []) ∙ ap (λ (l : List (List ℕ)). part book body ordinal-end ∷ l) third in
-        ap cueFrom (sym (step-bodies p (Ordinal ∷ Title ∷ []) ∙ ap (λ (l : List (List ℕ)). part book phrase phrase-end ∷ l) second))
+        let fourth = step-bodies d [] ∙ ap (λ (l : List (List ℕ)). part book dates end ∷ l) (form-none (drop end book) .2) in
+        let third = step-bodies t (Dates ∷ []) ∙ ap (λ (l : List (List ℕ)). part book title title-end ∷ l) fourth in
+        let second = step-bodies o (Title ∷ Dates ∷ []) ∙ ap (λ (l : List (List ℕ)). part book body ordinal-end ∷ l) third in
+        ap cueFrom (sym (step-bodies p (Ordinal ∷ Title ∷ Dates ∷ []) ∙ ap (λ (l : List (List ℕ)). part book phrase phrase-end ∷ l) second))
 
-    pub cue-read : {ordinal : ℕ} → ordinal ≡ numberIn (part book body ordinal-end) → CueRead book place (answer.Cue phrase phrase-end ordinal title end)
+    -- where its phrase ends, where its title stands, and where it ends
+    phrase-ends : phrase-end ≡ place + fieldSize (drop place book)
+    unfolding dueSize
+    phrase-ends = p .end-is
+
+    title-starts : title ≡ place + titleStart (drop place book)
+    title-starts = omega (arith, step-size p (Ordinal ∷ []), step-size o [], form-none (drop ordinal-end book) .1, t .start-is refl)
+
+    title-stops : title-end ≡ place + titleEnd (drop place book)
+    unfolding dueSize
+    title-stops =
+        let at : ordinal-end ≡ place + formSize headForm (drop place book) = omega (arith, step-size p (Ordinal ∷ []), step-size o [], form-none (drop ordinal-end book) .1) in
+        let head : drop ordinal-end book ≡ afterForm headForm (drop place book) = ap (λ (k : ℕ). drop k book) at ∙ after-field book place (formSize headForm (drop place book)) in
+        omega (arith, title-starts, t .start-is refl, t .end-is, ap fieldLength head)
+
+    cue-ends : end ≡ place + cueSize (drop place book)
+    cue-ends =
+        omega
+        (arith, step-size p (Ordinal ∷ Title ∷ Dates ∷ []), step-size o (Title ∷ Dates ∷ []), step-size t (Dates ∷ []), step-size d [], form-none (drop end book) .1)
+
+    pub cue-read : {ordinal : ℕ} {days : Days} → ordinal ≡ numberIn (part book body ordinal-end) → days ≡ daysFrom (part book dates end)
+        → CueRead book place (answer.Cue phrase phrase-end ordinal title title-end days end)
     unfolding cueAt
-    cue-read {ordinal} e =
+    cue-read {ordinal} {days} e g =
         let rest : List ℕ = drop place book in
         let on = eq-eqb (cueRefusal rest) 0 fields-none in
-        let value : cueWith (part book phrase phrase-end) ordinal (part book title end) ≡ cueOf rest = ap (λ (n : ℕ). cueWith (part book phrase phrase-end) n (part book title end)) e ∙ fields-value in
-        let start : title ≡ place + titleStart rest = omega (arith, step-size p (Ordinal ∷ []), step-size o [], form-none (drop ordinal-end book) .1, t .start-is) in
-        let ends : end ≡ place + cueSize rest = omega (arith, step-size p (Ordinal ∷ Title ∷ []), step-size o (Title ∷ []), step-size t [], form-none (drop end book) .1) in
+        let value : cueWith (part book phrase phrase-end) ordinal (part book title title-end) days ≡ cueOf rest =
+        ap₂ (λ (n : ℕ) (x : Days). cueWith (part book phrase phrase-end) n (part book title title-end) x) e g ∙ fields-value in
         record {
-          answer = rw on (ap-cue (p .start-is) (p .end-is) (ap (λ (c : Cue). c .ordinal) value) start ends);
+          answer = rw on (rw (p .start-is refl, phrase-ends, ap (λ (c : Cue). c .ordinal) value, title-starts, title-stops, ap (λ (c : Cue). c .days) value, cue-ends) refl);
           number = sym fields-none;
           meant = rw on (ap (λ (c : Cue). c ∷ []) value);
         }
-      where
-        ap-cue : {a a′ b b′ c c′ d d′ f f′ : ℕ} → a ≡ a′ → b ≡ b′ → c ≡ c′ → d ≡ d′ → f ≡ f′ → answer.Cue a b c d f ≡ answer.Cue a′ b′ c′ d′ f′
-        ap-cue {a} {a′} {b} {b′} {c} {c′} {d} {d′} {f} {f′} i j k l m =
-            ap₂ (λ (x y : ℕ). answer.Cue x y c d f) i j ∙ ap₂ (λ (x y : ℕ). answer.Cue a′ b′ x y f) k l ∙ ap (λ (x : ℕ). answer.Cue a′ b′ c′ d′ x) m
 
 -- ---- a cue's answer taken apart
 
 -- the cue was read: it stands there
-pub record CueAt (book : List ℕ) (place phrase phrase-end ordinal title end : ℕ) : Type 0 where
+pub record CueAt (book : List ℕ) (place phrase phrase-end ordinal title title-end : ℕ) (days : Days) (end : ℕ) : Type 0 where
   pub none : cueRefusal (drop place book) ≡ 0
   pub phrase-is : phrase ≡ place + 3
   pub phrase-end-is : phrase-end ≡ place + fieldSize (drop place book)
   pub title-is : title ≡ place + titleStart (drop place book)
+  pub title-end-is : title-end ≡ place + titleEnd (drop place book)
   pub end-is : end ≡ place + cueSize (drop place book)
-  pub meant : cueWith (part book phrase phrase-end) ordinal (part book title end) ≡ cueOf (drop place book)
+  pub meant : cueWith (part book phrase phrase-end) ordinal (part book title title-end) days ≡ cueOf (drop place book)
 
 phraseOf : CueAnswer → ℕ
-phraseOf (answer.Cue phrase phrase-end ordinal title end) = phrase
+phraseOf (answer.Cue phrase phrase-end ordinal title title-end days end) = phrase
 phraseOf (answer.Refused number) = 0
 
 phraseEnd : CueAnswer → ℕ
-phraseEnd (answer.Cue phrase phrase-end ordinal title end) = phrase-end
+phraseEnd (answer.Cue phrase phrase-end ordinal title title-end days end) = phrase-end
 phraseEnd (answer.Refused number) = 0
 
 titleOf : CueAnswer → ℕ
-titleOf (answer.Cue phrase phrase-end ordinal title end) = title
+titleOf (answer.Cue phrase phrase-end ordinal title title-end days end) = title
 titleOf (answer.Refused number) = 0
 
+titleStops : CueAnswer → ℕ
+titleStops (answer.Cue phrase phrase-end ordinal title title-end days end) = title-end
+titleStops (answer.Refused number) = 0
+
 module _ {book : List ℕ} {place : ℕ} {r : CueAnswer} (read : CueRead book place r) where
-  pub cue-at : {phrase phrase-end ordinal title end : ℕ} → r ≡ answer.Cue phrase phrase-end ordinal title end → CueAt book place phrase phrase-end ordinal title end
-  unfolding cueAt phraseOf phraseEnd titleOf firstOf
-  cue-at {phrase} {phrase-end} {ordinal} {title} {end} e =
+  pub cue-at : {phrase phrase-end ordinal title title-end end : ℕ} {days : Days} → r ≡ answer.Cue phrase phrase-end ordinal title title-end days end
+      → CueAt book place phrase phrase-end ordinal title title-end days end
+  unfolding cueAt phraseOf phraseEnd titleOf titleStops firstOf
+  cue-at e =
       let none : cueRefusal (drop place book) ≡ 0 = sym (read .number) ∙ ap cueNumber e in
       let on = eq-eqb (cueRefusal (drop place book)) 0 none in
       record {
@@ -133,6 +170,7 @@ module _ {book : List ℕ} {place : ℕ} {r : CueAnswer} (read : CueRead book pl
         phrase-is = ap phraseOf (sym e ∙ read .answer) ∙ rw on;
         phrase-end-is = ap phraseEnd (sym e ∙ read .answer) ∙ rw on;
         title-is = ap titleOf (sym e ∙ read .answer) ∙ rw on;
+        title-end-is = ap titleStops (sym e ∙ read .answer) ∙ rw on;
         end-is = ap cueEnd (sym e ∙ read .answer) ∙ rw on;
         meant = ap (firstOf (cueOf (drop place book))) (ap (cuesMeant book) (sym e) ∙ read .meant) ∙ rw on;
       }
@@ -142,7 +180,7 @@ module _ {book : List ℕ} {place : ℕ} {r : CueAnswer} (read : CueRead book pl
   cue-refused-some t z =
       let on = eq-eqb (cueRefusal (drop place book)) 0 (sym (read .number) ∙ z) in
       let rest : List ℕ = drop place book in
-      let is : r ≡ answer.Cue (place + 3) (place + fieldSize rest) (cueOf rest .ordinal) (place + titleStart rest) (place + cueSize rest) = read .answer ∙ rw on in
+      let is : r ≡ answer.Cue (place + 3) (place + fieldSize rest) (cueOf rest .ordinal) (place + titleStart rest) (place + titleEnd rest) (cueOf rest .days) (place + cueSize rest) = read .answer ∙ rw on in
       told-apart (declared.tagOf answers.the-type) is refl t
 
 -- the phrase lies in the book, and its length is allowed
@@ -152,7 +190,7 @@ pub record PhraseInside (book : List ℕ) (phrase phrase-end : ℕ) : Type 0 whe
   pub some : 1 ≤ phrase-end - phrase
   pub short : phrase-end - phrase ≤ 1024
 
-pub phrase-inside : {book : List ℕ} {place phrase phrase-end ordinal title end : ℕ} → CueAt book place phrase phrase-end ordinal title end → PhraseInside book phrase phrase-end
+pub phrase-inside : {book : List ℕ} {place phrase phrase-end ordinal title title-end end : ℕ} {days : Days} → CueAt book place phrase phrase-end ordinal title title-end days end → PhraseInside book phrase phrase-end
 phrase-inside {book} {place} c =
     let f = cue-phrase (drop place book) (c .none) in
     let lengths = both (leb 1 (fieldLength (drop place book))) (leb (fieldLength (drop place book)) 1024) (f .lengths) in
@@ -165,6 +203,7 @@ phrase-inside {book} {place} c =
       short = omega (arith, c .phrase-is, c .phrase-end-is);
     }
 
--- the title ends where the cue does, which is further on
-pub title-ends : {book : List ℕ} {place phrase phrase-end ordinal title end : ℕ} → CueAt book place phrase phrase-end ordinal title end → (end ≡ title + titleLength (drop place book)) × (place < end)
-title-ends {book} {place} c = let last = title-last (drop place book) in (omega (arith, c .title-is, c .end-is, last), omega (arith, c .end-is, last))
+-- the title's length, and that the cue ends further on
+pub title-ends : {book : List ℕ} {place phrase phrase-end ordinal title title-end end : ℕ} {days : Days} → CueAt book place phrase phrase-end ordinal title title-end days end
+    → (title-end ≡ title + titleLength (drop place book)) × (place < end)
+title-ends {book} {place} c = (omega (arith, c .title-is, c .title-end-is), omega (arith, c .end-is, title-last (drop place book)))

@@ -14,33 +14,36 @@ use Rattle.cues.specs.Reading.{cueRefusal, cueSize, cueOf}
 
 -- the refusal's number of an answer, 0 for a cue
 abbrev pub cueNumber : CueAnswer → ℕ
-cueNumber (answer.Cue phrase phrase-end ordinal title end) = 0
+cueNumber (answer.Cue phrase phrase-end ordinal title title-end days end) = 0
 cueNumber (answer.Refused number) = number
 
 -- the place after the cue, 0 for a refusal
 abbrev pub cueEnd : CueAnswer → ℕ
-cueEnd (answer.Cue phrase phrase-end ordinal title end) = end
+cueEnd (answer.Cue phrase phrase-end ordinal title title-end days end) = end
 cueEnd (answer.Refused number) = 0
 
 -- the cue that an answer means: its phrase and its title are parts of the book. A refusal means none
 abbrev pub cuesMeant : List ℕ → CueAnswer → List Cue
-cuesMeant book (answer.Cue phrase phrase-end ordinal title end) = cueWith (part book phrase phrase-end) ordinal (part book title end) ∷ []
+cuesMeant book (answer.Cue phrase phrase-end ordinal title title-end days end) = cueWith (part book phrase phrase-end) ordinal (part book title title-end) days ∷ []
 cuesMeant book (answer.Refused number) = []
 
--- where a cue's title starts, from the cue on: after the fields before it and its header; and its length
+-- where a cue's title starts, from the cue on: after the fields before it and its header; its length; and where it ends
 abbrev pub titleStart : List ℕ → ℕ
 titleStart rest = formSize headForm rest + 3
 
 abbrev pub titleLength : List ℕ → ℕ
 titleLength rest = fieldLength (afterForm headForm rest)
 
+abbrev pub titleEnd : List ℕ → ℕ
+titleEnd rest = titleStart rest + titleLength rest
+
 -- the answer at a place
 unfoldable pub cueAt : List ℕ → ℕ → CueAnswer
 unfolding cueRefusal cueOf formSize numberIn
 cueAt book place =
-    cond (eqb (cueRefusal (drop place book)) 0)
-    (answer.Cue (place + 3) (place + fieldSize (drop place book)) (cueOf (drop place book) .ordinal) (place + titleStart (drop place book)) (place + cueSize (drop place book)))
-    (answer.Refused (cueRefusal (drop place book)))
+    let rest : List ℕ = drop place book in
+    let read : CueAnswer = answer.Cue (place + 3) (place + fieldSize rest) (cueOf rest .ordinal) (place + titleStart rest) (place + titleEnd rest) (cueOf rest .days) (place + cueSize rest) in
+    cond (eqb (cueRefusal rest) 0) read (answer.Refused (cueRefusal rest))
 
 -- what is read there, its number in document 01, and the cue that it means
 pub record CueRead (book : List ℕ) (place : ℕ) (r : CueAnswer) : Type 0 where

@@ -1,28 +1,59 @@
-// This crate reads one cue at a place of a book (document 01, "Cue book, folding, lines"), and says what a cue's value and its bytes are.
-// It depends on `cue_fields` for a field and for fields in the order of a list, and on `matching` for its tables of refusals and its case analysis.
+// This crate reads one cue at a place of a book (document 01, "Cue book, folding, lines"; document 02, (viii)), and says what a cue's value and its bytes are, and when it plays.
+// It depends on `cue_fields` for a field and for fields in the order of a list, on `calendar` for the days that there are, and on `matching` for its tables of refusals and its case analysis.
 // proofs/Values.antt has the laws that a cue written reads back, and that a cue read was so written; `cue_book` reads a whole book, and `cue_writer` writes a cue.
 use cue_fields::Due;
 use cue_fields::FieldAnswer;
 ghost use mathlib.Core.Path.{_≡_};
+ghost use Rattle.cues.specs.Cue.{daysFrom, daysHold};
 ghost use Rattle.cues.specs.Places.{cueNumber, CueRead};
 
-// What reading a cue gives: its phrase and its title as the parts of the book where they stand, its ordinal, and the place after it, where the title ends; or the refusal's number.
+// The days on which a cue plays: always, or from a first day to a last one.
+pub enum Days {
+    Always,
+    Within { first: u32, last: u32 },
+}
+
+// What reading a cue gives: its phrase and its title as the parts of the book where they stand, its ordinal, its days, and the place after it; or the refusal's number.
 pub enum CueAnswer {
     Cue {
         phrase: usize,
         phrase_end: usize,
         ordinal: u32,
         title: usize,
+        title_end: usize,
+        days: Days,
         end: usize,
     },
     Refused(u32),
 }
 
-// Reads the cue at a place of a book: its three fields in their order, the first refusal leaving at the spot.
+// Whether a cue with these days plays on a day: on the first and on the last too.
+pub fn plays(days: Days, day: u32) -> bool
+    ensures { λ r. ⌜ r ≡ daysHold day days ⌝ }
+{
+    match days {
+        Days::Always => true,
+        Days::Within { first, last } => first <= day && day <= last,
+    }
+}
+
+// The days that the body of dates means; the empty one, of a field left out, means always.
+fn days_in(body: &[u8]) -> Days
+    ensures { λ r. ⌜ r ≡ daysFrom (now (body .entry)) ⌝ }
+{
+    if body.len() == 0 {
+        return Days::Always;
+    }
+    let first = cue_fields::number_at(body) as u32;
+    let last = cue_fields::number_from(body, 2) as u32;
+    Days::Within { first, last }
+}
+
+// Reads the cue at a place of a book: its fields in their order, the first refusal leaving at the spot.
 pub fn read_cue(book: &[u8], place: usize) -> CueAnswer
     ensures { λ r. ⌜ CueRead (now (book .entry)) place r ⌝ }
 {
-    let first = cue_fields::read_field(book, place, Due::Phrase);
+    let first = cue_fields::read_phrase(book, place);
     let FieldAnswer::Body {
         start: phrase,
         end: phrase_end,
@@ -30,7 +61,7 @@ pub fn read_cue(book: &[u8], place: usize) -> CueAnswer
     else {
         return CueAnswer::Refused(cue_fields::field_number(first));
     };
-    let second = cue_fields::read_field(book, phrase_end, Due::Ordinal);
+    let second = cue_fields::read_ordinal(book, phrase_end);
     let FieldAnswer::Body {
         start: body,
         end: ordinal_end,
@@ -38,16 +69,27 @@ pub fn read_cue(book: &[u8], place: usize) -> CueAnswer
     else {
         return CueAnswer::Refused(cue_fields::field_number(second));
     };
-    let third = cue_fields::read_field(book, ordinal_end, Due::Title);
-    let FieldAnswer::Body { start: title, end } = third else {
+    let third = cue_fields::read_title(book, ordinal_end);
+    let FieldAnswer::Body {
+        start: title,
+        end: title_end,
+    } = third
+    else {
         return CueAnswer::Refused(cue_fields::field_number(third));
     };
+    let fourth = cue_fields::read_due(book, title_end, Due::Dates);
+    let FieldAnswer::Body { start: dates, end } = fourth else {
+        return CueAnswer::Refused(cue_fields::field_number(fourth));
+    };
     let ordinal = cue_fields::number_at(&book[body..ordinal_end]) as u32;
+    let days = days_in(&book[dates..end]);
     CueAnswer::Cue {
         phrase,
         phrase_end,
         ordinal,
         title,
+        title_end,
+        days,
         end,
     }
 }
@@ -62,6 +104,8 @@ pub fn cue_number(answer: CueAnswer) -> u32
             phrase_end: _,
             ordinal: _,
             title: _,
+            title_end: _,
+            days: _,
             end: _,
         } => 0,
         CueAnswer::Refused(number) => number,

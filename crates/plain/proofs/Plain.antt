@@ -2,14 +2,14 @@
 use mathlib.Core.Path.{_≡_, sym, _∙_}
 use Prim.Native.Nat.{ℕ, _+_, _≤_, _<_}
 use native.Mathlib.Omega.{arith}
-use mathlib.Core.Bool.{cond}
+use mathlib.Core.Bool.{Bool, cond}
 use mathlib.Core.List.{List}
 use lib.ListN.{length, drop}
 use lib.Dec.{eqb}
 use borrow.Author.Tests.{eq-eqb, ne-eqb, lt-ltb, le-ltb}
 use Rattle.matching.proofs.CaseAnalysis.{by-test}
 use Rattle.cue_fields.specs.declared.Due.{Due}
-use Rattle.cue_fields.specs.declared.Due.the-variants.{Phrase, Ordinal, Title}
+use Rattle.cue_fields.specs.declared.Due.the-variants.{Phrase, Ordinal, Title, Dates}
 use Rattle.cue_fields.specs.declared.FieldAnswer.{FieldAnswer}
 use Rattle.cue_fields.specs.declared.FieldAnswer.the-variants.{Body, Refused}
 use Rattle.cue_fields.specs.Field.{fieldSize, fieldRefusal, fieldAt}
@@ -30,9 +30,13 @@ module _ (book : List ℕ) (place due : ℕ) where
   unfolding fieldDue
   due-title a b e = rw (ne-eqb due 1 a, ne-eqb due 2 b, eq-eqb due 3 e)
 
-  pub due-unknown : (due ≡ 1 → ⊥) → (due ≡ 2 → ⊥) → (due ≡ 3 → ⊥) → fieldDue book place due ≡ unknownAt book place
+  pub due-dates : (due ≡ 1 → ⊥) → (due ≡ 2 → ⊥) → (due ≡ 3 → ⊥) → due ≡ 4 → fieldDue book place due ≡ fieldAt book place Dates
   unfolding fieldDue
-  due-unknown a b c = rw (ne-eqb due 1 a, ne-eqb due 2 b, ne-eqb due 3 c)
+  due-dates a b c e = rw (ne-eqb due 1 a, ne-eqb due 2 b, ne-eqb due 3 c, eq-eqb due 4 e)
+
+  pub due-unknown : (due ≡ 1 → ⊥) → (due ≡ 2 → ⊥) → (due ≡ 3 → ⊥) → (due ≡ 4 → ⊥) → fieldDue book place due ≡ unknownAt book place
+  unfolding fieldDue
+  due-unknown a b c d = rw (ne-eqb due 1 a, ne-eqb due 2 b, ne-eqb due 3 c, ne-eqb due 4 d)
 
 -- the tests for a number that is no tag
 module _ (book : List ℕ) (place : ℕ) where
@@ -56,15 +60,17 @@ at-ordered book place due =
     (λ _. omega arith)
     (λ _. tt)
 
+-- and so does one of two answers, if each does
+either-ordered : (t : Bool) (one other : FieldAnswer) → Ordered one → Ordered other → Ordered (cond t one other)
+either-ordered t one other a b = by-test (λ t. Ordered (cond t one other)) t (λ _. a) (λ _. b)
+
 due-ordered : (book : List ℕ) (place due : ℕ) → Ordered (fieldDue book place due)
 unfolding fieldDue
 due-ordered book place due =
-    by-test (λ t. Ordered (cond t (fieldAt book place Phrase) (cond (eqb due 2) (fieldAt book place Ordinal) (cond (eqb due 3) (fieldAt book place Title) (unknownAt book place))))) (eqb due 1)
-    (λ _. at-ordered book place Phrase)
-    (λ _.
-    by-test (λ t. Ordered (cond t (fieldAt book place Ordinal) (cond (eqb due 3) (fieldAt book place Title) (unknownAt book place)))) (eqb due 2)
-    (λ _. at-ordered book place Ordinal)
-    (λ _. by-test (λ t. Ordered (cond t (fieldAt book place Title) (unknownAt book place))) (eqb due 3) (λ _. at-ordered book place Title) (λ _. tt)))
+    either-ordered (eqb due 1) _ _ (at-ordered book place Phrase)
+    (either-ordered (eqb due 2) _ _ (at-ordered book place Ordinal)
+    (either-ordered (eqb due 3) _ _ (at-ordered book place Title)
+    (either-ordered (eqb due 4) _ _ (at-ordered book place Dates) tt)))
 
 pub body-ordered : (book : List ℕ) (place due : ℕ) {start end : ℕ} {r : FieldAnswer} → r ≡ fieldDue book place due → r ≡ Body start end → start ≤ end
 body-ordered book place due {start} {end} answer body =

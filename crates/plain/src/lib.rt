@@ -1,12 +1,16 @@
-// The answers of the cue book as plain numbers, for an interface that passes no enum: a field and a cue read at a place of a book.
-// It depends on `cue_fields` and `cues`, which read them, and on `matching` for its case analysis.
+// The cue book by plain numbers, for an interface that passes no enum: a field and a cue read at a place of a book, and a cue written.
+// It depends on `cue_fields` and `cues`, which read them, on `cue_writer`, which writes one, and on `matching` for the answer that a call gives and its case analysis.
 // A refused answer is 0 in all but its refusal; specs/Plain.antt has what passes for each answer.
 use cue_fields::Due;
 use cue_fields::FieldAnswer;
 use cues::CueAnswer;
+use cues::Days;
+use matching::Answer;
 ghost use mathlib.Core.Path.{_≡_};
+ghost use Rattle.cues.specs.Cue.{cueWith};
 ghost use Rattle.cues.specs.Places.{cueAt};
-ghost use Rattle.plain.specs.Plain.{fieldDue, fieldPassed, cuePassed};
+ghost use Rattle.cue_writer.specs.Writing.{Written};
+ghost use Rattle.plain.specs.Plain.{fieldDue, fieldPassed, daysPassed, cuePassed, daysGiven};
 
 // A field read: the refusal, or 0 with its body's start and length and the place after it. A refused one is 0 in all else.
 #[repr(C)]
@@ -17,11 +21,15 @@ pub struct PlainField {
     pub end: usize,
 }
 
-// A cue read: the refusal, or 0 with its ordinal, its phrase and its title as parts of the book, and the place after it. A refused one is 0 in all else.
+// A cue read: the refusal, or 0 with its ordinal, its days, its phrase and its title as parts of the book, and the place after it. `dated` is 1 with the two days where the cue has dates; where it plays always,
+// these three are 0. A refused one is 0 in all but its refusal.
 #[repr(C)]
 pub struct PlainCue {
     pub refusal: u32,
     pub ordinal: u32,
+    pub dated: u32,
+    pub first: u32,
+    pub last: u32,
     pub phrase_start: usize,
     pub phrase_len: usize,
     pub title_start: usize,
@@ -41,6 +49,9 @@ fn read_due(book: &[u8], place: usize, due: u32) -> FieldAnswer
     }
     if due == 3 {
         return cue_fields::read_field(book, place, Due::Title);
+    }
+    if due == 4 {
+        return cue_fields::read_field(book, place, Due::Dates);
     }
     if book.len() < place {
         return FieldAnswer::Refused(7);
@@ -72,6 +83,31 @@ pub fn read_field(book: &[u8], place: usize, due: u32) -> PlainField
     }
 }
 
+// A cue's days as they pass: 1 with the first and the last where it has dates, and 0 in all where it plays always.
+struct PlainDays {
+    dated: u32,
+    first: u32,
+    last: u32,
+}
+
+// A cue's days, as these numbers.
+fn passed_days(days: Days) -> PlainDays
+    ensures { λ r. ⌜ r ≡ daysPassed days ⌝ }
+{
+    match days {
+        Days::Always => PlainDays {
+            dated: 0,
+            first: 0,
+            last: 0,
+        },
+        Days::Within { first, last } => PlainDays {
+            dated: 1,
+            first,
+            last,
+        },
+    }
+}
+
 // A cue read at a place of a book.
 pub fn read_cue(book: &[u8], place: usize) -> PlainCue
     ensures { λ r. ⌜ r ≡ cuePassed (cueAt (now (book .entry)) place) ⌝ }
@@ -83,19 +119,30 @@ pub fn read_cue(book: &[u8], place: usize) -> PlainCue
             phrase_end,
             ordinal,
             title,
+            title_end,
+            days,
             end,
-        } => PlainCue {
-            refusal: 0,
-            ordinal,
-            phrase_start: phrase,
-            phrase_len: phrase_end - phrase,
-            title_start: title,
-            title_len: end - title,
-            end,
-        },
+        } => {
+            let passed = passed_days(days);
+            PlainCue {
+                refusal: 0,
+                ordinal,
+                dated: passed.dated,
+                first: passed.first,
+                last: passed.last,
+                phrase_start: phrase,
+                phrase_len: phrase_end - phrase,
+                title_start: title,
+                title_len: title_end - title,
+                end,
+            }
+        }
         CueAnswer::Refused(number) => PlainCue {
             refusal: number,
             ordinal: 0,
+            dated: 0,
+            first: 0,
+            last: 0,
             phrase_start: 0,
             phrase_len: 0,
             title_start: 0,
@@ -103,4 +150,30 @@ pub fn read_cue(book: &[u8], place: usize) -> PlainCue
             end: 0,
         },
     }
+}
+
+// The days that come as plain numbers: always where `dated` is 0, and then the two others play no part; and else from the first to the last.
+fn given_days(dated: u32, first: u32, last: u32) -> Days
+    ensures { λ r. ⌜ r ≡ daysGiven dated first last ⌝ }
+{
+    if dated == 0 {
+        return Days::Always;
+    }
+    Days::Within { first, last }
+}
+
+// A cue written at the buffer's start, its days given as plain numbers: 0 and its length, or the refusal and 0.
+pub fn write_cue(
+    buffer: &mut [u8],
+    phrase: &[u8],
+    ordinal: u32,
+    title: &[u8],
+    dated: u32,
+    first: u32,
+    last: u32,
+) -> Answer
+    ensures { λ r. ⌜ Written (cueWith (now (phrase .entry)) ordinal (now (title .entry)) (daysGiven dated first last)) (now (buffer .entry)) r (now (buffer .exit)) ⌝ }
+{
+    let days = given_days(dated, first, last);
+    cue_writer::write_cue(buffer, phrase, ordinal, title, days)
 }

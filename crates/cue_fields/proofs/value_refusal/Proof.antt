@@ -17,6 +17,12 @@ ordinal-refusal-requires c κs = search needs
 enum-told-3 : tie.Need-enum-told-3
 enum-told-3 c = search needs
 
+enum-told-4 : tie.Need-enum-told-4
+enum-told-4 c = search needs
+
+dates-refusal-requires : tie.Need-dates-refusal-requires
+dates-refusal-requires c κs = search needs
+
 returns : tie.Need-returns
 unfolding firstMet
 returns c = rw (c .enum-told .given .1)
@@ -28,5 +34,8 @@ returns-3 : tie.Need-returns-3
 unfolding firstMet
 returns-3 c = rw (c .enum-told3 .given .1)
 
+returns-4 : tie.Need-returns-4
+returns-4 c = c .dates-refusal .ensures ∙ rw (c .before .enum-told4 .given .1)
+
 pub value-refusal-spec : {M : Type 1} → statement M
-value-refusal-spec = tie.close (tie.spec enum-told enum-told-2 ordinal-refusal-requires enum-told-3 returns returns-2 returns-3)
+value-refusal-spec = tie.close (tie.spec enum-told enum-told-2 ordinal-refusal-requires enum-told-3 enum-told-4 dates-refusal-requires returns returns-2 returns-3 returns-4)

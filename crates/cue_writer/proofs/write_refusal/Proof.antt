@@ -1,90 +1,135 @@
 -- `cue_writer::write_refusal` meets its contract: each return is the first row that is met. Assumes nothing.
 use borrow.Author.Needs.{needs}
 use mathlib.Core.Path.{_≡_, sym, _∙_}
-use mathlib.Core.Bool.{false}
+use mathlib.Core.Bool.{true, false}
 use mathlib.Core.List.{[], _∷_}
 use native.Mathlib.Omega.{arith}
 use lib.ListN.{length}
 use lib.Dec.{eqb, ltb}
 use borrow.Author.Tests.{eq-eqb, ne-eqb, lt-ltb, le-ltb}
 use Rattle.matching.specs.Refusals.{firstMet}
-use Rattle.cues.specs.Cue.{cueWith, cueBytes}
+use Rattle.cues.specs.Cue.{Cue, cueWith, cueBytes, datesRefusal}
 use Rattle.cue_writer.specs.Writing.{writeRefusal}
-use Rattle.cue_writer.proofs.Writing.{cue-length}
+use Rattle.cue_writer.proofs.Writing.{cue-length, dates-most, days-first}
 use Rattle.cue_writer.proofs.write_refusal.Statement.{statement}
 use Rattle.cue_writer.proofs.write_refusal.Tie as tie
 
--- the rows that are not met, each where its test was passed: a phrase of 1 to 1,024, an ordinal of 1 to 65,535, a title of at most 200
-some : (e : tie.Else1) → eqb (length (e .before .args .phrase .now)) 0 ≡ false
-some e = ne-eqb (length (e .before .args .phrase .now)) 0 (λ z. omega arith)
+-- where the call came in, where its days were tested, and the cue
+abbrev start : tie.After-dates-refused → tie.Start
+start d = d .before .before .before
 
-short : (e : tie.Else2) → ltb 1024 (length (e .before .before .args .phrase .now)) ≡ false
-short e = le-ltb 1024 (length (e .before .before .args .phrase .now)) (omega arith)
+abbrev tested : tie.Else6 → tie.After-dates-refused
+tested e = e .before .before .before .before .before .before
 
-named : (e : tie.Else3) → eqb (e .before .before .before .args .ordinal) 0 ≡ false
-named e = ne-eqb (e .before .before .before .args .ordinal) 0 (λ z. omega arith)
+abbrev cue : tie.After-dates-refused → Cue
+cue d = let a = start d .args in cueWith (a .phrase .now) (a .ordinal) (a .title .now) (a .days)
 
-small : (e : tie.Else4) → ltb 65535 (e .before .before .before .before .args .ordinal) ≡ false
-small e = le-ltb 65535 (e .before .before .before .before .args .ordinal) (omega arith)
+-- the rows that are not met, each where its test was passed: days that are not refused, a phrase of 1 to 1,024, an ordinal of 1 to 65,535, a title of at most 200
+dated : (e : tie.Else1) → eqb (datesRefusal (cue (e .before) .days)) 0 ≡ true
+dated e = eq-eqb (datesRefusal (cue (e .before) .days)) 0 (sym (e .before .dates-refused .ensures) ∙ e .if1 .left)
 
-shown : (e : tie.Else5) → ltb 200 (length (e .before .before .before .before .before .args .title .now)) ≡ false
-shown e = le-ltb 200 (length (e .before .before .before .before .before .args .title .now)) (omega arith)
+some : (e : tie.Else2) → eqb (length (cue (e .before .before) .phrase)) 0 ≡ false
+some e = ne-eqb (length (cue (e .before .before) .phrase)) 0 (λ z. omega arith)
 
--- where the first five are not met, the last row is left
-last-left : (e : tie.Else5) → let a = e .before .before .before .before .before .args in let k = cueWith (a .phrase .now) (a .ordinal) (a .title .now) in
-    writeRefusal k (a .capacity) ≡ firstMet ((ltb (a .capacity) (length (cueBytes k)), 13) ∷ [])
+short : (e : tie.Else3) → ltb 1024 (length (cue (e .before .before .before) .phrase)) ≡ false
+short e = le-ltb 1024 (length (cue (e .before .before .before) .phrase)) (omega arith)
+
+named : (e : tie.Else4) → eqb (cue (e .before .before .before .before) .ordinal) 0 ≡ false
+named e = ne-eqb (cue (e .before .before .before .before) .ordinal) 0 (λ z. omega arith)
+
+small : (e : tie.Else5) → ltb 65535 (cue (e .before .before .before .before .before) .ordinal) ≡ false
+small e = le-ltb 65535 (cue (e .before .before .before .before .before) .ordinal) (omega arith)
+
+shown : (e : tie.Else6) → ltb 200 (length (cue (tested e) .title)) ≡ false
+shown e = le-ltb 200 (length (cue (tested e) .title)) (omega arith)
+
+-- where the first six are not met, the last row is left
+last-left : (e : tie.Else6) → let k = cue (tested e) in let capacity = start (tested e) .args .capacity in writeRefusal k capacity ≡ firstMet ((ltb capacity (length (cueBytes k)), 13) ∷ [])
 unfolding writeRefusal firstMet
-last-left e = rw (some (e .before .before .before .before), short (e .before .before .before), named (e .before .before), small (e .before), shown e)
+last-left e =
+    let e₅ = e .before in
+    let e₄ = e₅ .before in
+    let e₃ = e₄ .before in
+    rw (dated (e₃ .before .before), some (e₃ .before), short e₃, named e₄, small e₅, shown e)
+
+dates-refused-requires : tie.Need-dates-refused-requires
+dates-refused-requires c κs = search needs
 
 returns : tie.Need-returns
-unfolding writeRefusal firstMet
-returns c =
-    let a = c .before .args in
-    rw (eq-eqb (length (a .phrase .now)) 0 (omega arith))
+returns c = let d = c .before in sym (days-first (cue d) (start d .args .capacity) (λ z. c .if1 .taken (d .dates-refused .ensures ∙ z)))
 
 returns-2 : tie.Need-returns-2
 unfolding writeRefusal firstMet
 returns-2 c =
-    let a = c .before .before .args in
-    rw (some (c .before), lt-ltb 1024 (length (a .phrase .now)) (omega arith))
+    let e = c .before in
+    rw (dated e, eq-eqb (length (cue (e .before) .phrase)) 0 (omega arith))
 
 returns-3 : tie.Need-returns-3
 unfolding writeRefusal firstMet
 returns-3 c =
-    let a = c .before .before .before .args in
-    rw (some (c .before .before), short (c .before), eq-eqb (a .ordinal) 0 (omega arith))
+    let e = c .before in
+    rw (dated (e .before), some e, lt-ltb 1024 (length (cue (e .before .before) .phrase)) (omega arith))
 
 returns-4 : tie.Need-returns-4
 unfolding writeRefusal firstMet
 returns-4 c =
-    let a = c .before .before .before .before .args in
-    rw (some (c .before .before .before), short (c .before .before), named (c .before), lt-ltb 65535 (a .ordinal) (omega arith))
+    let e = c .before in
+    rw (dated (e .before .before), some (e .before), short e, eq-eqb (cue (e .before .before .before) .ordinal) 0 (omega arith))
 
 returns-5 : tie.Need-returns-5
 unfolding writeRefusal firstMet
 returns-5 c =
-    let a = c .before .before .before .before .before .args in
-    rw (some (c .before .before .before .before), short (c .before .before .before), named (c .before .before), small (c .before), lt-ltb 200 (length (a .title .now)) (omega arith))
-
-add-if6 : tie.Need-add-if6
-add-if6 c = search needs
-
-add-if6-2 : tie.Need-add-if6-2
-add-if6-2 c = search needs
+    let e = c .before in
+    rw (dated (e .before .before .before), some (e .before .before), short (e .before), named e, lt-ltb 65535 (cue (e .before .before .before .before) .ordinal) (omega arith))
 
 returns-6 : tie.Need-returns-6
-unfolding firstMet
+unfolding writeRefusal firstMet
 returns-6 c =
-    let a = c .before .before .before .before .before .before .args in
-    let k = cueWith (a .phrase .now) (a .ordinal) (a .title .now) in
-    sym (last-left (c .before) ∙ rw (lt-ltb (a .capacity) (length (cueBytes k)) (omega (arith, cue-length k))))
+    let e = c .before in
+    let e₃ = e .before .before in
+    rw
+    (dated (e₃ .before .before), some (e₃ .before), short e₃, named (e .before), small e, lt-ltb 200 (length (cue (e₃ .before .before .before) .title)) (omega arith))
+
+add-if7 : tie.Need-add-if7
+add-if7 c = search needs
+
+add-if7-2 : tie.Need-add-if7-2
+add-if7-2 c = search needs
+
+dates-len-requires : tie.Need-dates-len-requires
+dates-len-requires c κs = search needs
+
+add-if7-3 : tie.Need-add-if7-3
+add-if7-3 c = omega (arith, c .dates-len .ensures, dates-most (cue (tested (c .before)) .days))
 
 returns-7 : tie.Need-returns-7
 unfolding firstMet
 returns-7 c =
-    let a = c .before .before .before .before .before .before .args in
-    let k = cueWith (a .phrase .now) (a .ordinal) (a .title .now) in
-    sym (last-left (c .before) ∙ rw (le-ltb (a .capacity) (length (cueBytes k)) (omega (arith, cue-length k))))
+    let l = c .before in
+    let k = cue (tested (l .before)) in
+    sym (last-left (l .before) ∙ rw (lt-ltb (start (tested (l .before)) .args .capacity) (length (cueBytes k)) (omega (arith, cue-length k, l .dates-len .ensures))))
+
+returns-8 : tie.Need-returns-8
+unfolding firstMet
+returns-8 c =
+    let l = c .before in
+    let k = cue (tested (l .before)) in
+    sym (last-left (l .before) ∙ rw (le-ltb (start (tested (l .before)) .args .capacity) (length (cueBytes k)) (omega (arith, cue-length k, l .dates-len .ensures))))
 
 pub write-refusal-spec : {M : Type 1} → statement M
-write-refusal-spec = tie.close (tie.spec returns returns-2 returns-3 returns-4 returns-5 add-if6 add-if6-2 returns-6 returns-7)
+write-refusal-spec =
+    tie.close
+    (tie.spec
+    dates-refused-requires
+    returns
+    returns-2
+    returns-3
+    returns-4
+    returns-5
+    returns-6
+    add-if7
+    add-if7-2
+    dates-len-requires
+    add-if7-3
+    returns-7
+    returns-8)

@@ -7,14 +7,13 @@ use mathlib.Core.List.{List, [], _∷_}
 use lib.ListN.{length, drop}
 use denote.Enum.Declared as declared
 use Rattle.cue_fields.specs.declared.Due.{Due}
-use Rattle.cue_fields.specs.declared.Due.the-variants.{Phrase, Ordinal, Title}
+use Rattle.cue_fields.specs.declared.Due.the-variants.{Phrase, Ordinal, Title, Dates}
 use Rattle.cue_fields.specs.declared.FieldAnswer.{FieldAnswer}
 use Rattle.cue_fields.proofs.FieldAnswer as answers
-use Rattle.cue_fields.specs.Field.{fieldNumber, FieldRead}
-use Rattle.cue_fields.specs.Form.{formRefusal}
-use Rattle.cue_fields.proofs.Fields.{BodyAt, body-at, refused-some, body-inside}
+use Rattle.cue_fields.specs.Field.{fieldNumber}
+use Rattle.cue_fields.specs.Form.{DueRead, formRefusal}
 use Rattle.cue_fields.proofs.Form.{form-refused}
-use Rattle.cue_fields.proofs.Steps.{step-refusal}
+use Rattle.cue_fields.proofs.Steps.{due-stands, DueAt, due-at, due-some, step-refusal}
 use Rattle.cues.specs.declared.CueAnswer.the-variants as answer
 use Rattle.cues.specs.Reading.{cueRefusal}
 use Rattle.cues.specs.Places.{CueRead}
@@ -22,7 +21,7 @@ use Rattle.cues.proofs.Cues.{cue-refused, cue-read}
 use Rattle.cues.proofs.read_cue.Statement.{statement}
 use Rattle.cues.proofs.read_cue.Tie as tie
 
--- the places of this proof: where the call came in, and where the phrase and the ordinal were read
+-- the places of this proof: where the call came in, and where the phrase, the ordinal and the title were read
 abbrev start : tie.After-known-told → tie.Start
 start k = k .before .before .before .before .before
 
@@ -32,38 +31,57 @@ phrase-read k = k .before .before .before .before
 abbrev ordinal-read : tie.After-known-told3 → tie.After-known-told2
 ordinal-read k = k .before .before .before .before
 
--- the phrase and the ordinal stand there
-first-at : (k : tie.After-known-told) → let a = start k .args in BodyAt (a .book .now) (a .place) Phrase (k .before .first .given .0 .0) (k .before .first .given .0 .1 .0)
-first-at k = body-at (k .before .before .before .read-field .ensures) (k .before .first .given .1)
+abbrev title-read : tie.After-known-told4 → tie.After-known-told3
+title-read k = k .before .before .before .before
+
+-- the fields stand there
+first-at : (k : tie.After-known-told) → let a = start k .args in DueAt (a .book .now) (a .place) Phrase (k .before .first .given .0 .0) (k .before .first .given .0 .1 .0)
+first-at k = due-at (due-stands refl (k .before .before .before .read-phrase .ensures)) (k .before .first .given .1)
 
 second-at : (k : tie.After-known-told2) → let f = phrase-read k in
-    BodyAt (start f .args .book .now) (f .before .first .given .0 .1 .0) Ordinal (k .before .second .given .0 .0) (k .before .second .given .0 .1 .0)
-second-at k = body-at (k .before .before .before .read-field2 .ensures) (k .before .second .given .1)
+    DueAt (start f .args .book .now) (f .before .first .given .0 .1 .0) Ordinal (k .before .second .given .0 .0) (k .before .second .given .0 .1 .0)
+second-at k = due-at (due-stands refl (k .before .before .before .read-ordinal .ensures)) (k .before .second .given .1)
 
--- the title lies in the book
-title-inside : (k : tie.After-known-told3) → let f = phrase-read (ordinal-read k) in
-    (k .before .third .given .0 .0 ≤ k .before .third .given .0 .1 .0) × (k .before .third .given .0 .1 .0 ≤ length (start f .args .book .now))
-title-inside k = body-inside (body-at (k .before .before .before .read-field3 .ensures) (k .before .third .given .1))
+third-at : (k : tie.After-known-told3) → let o = ordinal-read k in
+    DueAt (start (phrase-read o) .args .book .now) (o .before .second .given .0 .1 .0) Title (k .before .third .given .0 .0) (k .before .third .given .0 .1 .0)
+third-at k = due-at (due-stands refl (k .before .before .before .read-title .ensures)) (k .before .third .given .1)
+
+fourth-at : (k : tie.After-known-told4) → let t = title-read k in
+    DueAt (start (phrase-read (ordinal-read t)) .args .book .now) (t .before .third .given .0 .1 .0) Dates (k .before .fourth .given .0 .0) (k .before .fourth .given .0 .1 .0)
+fourth-at k = due-at (k .before .before .before .read-due .ensures) (k .before .fourth .given .1)
+
+-- ordinal and dates lie in the book
+ordinal-inside : (k : tie.After-known-told4) → let o = ordinal-read (title-read k) in
+    (o .before .second .given .0 .0 ≤ o .before .second .given .0 .1 .0) × (o .before .second .given .0 .1 .0 ≤ length (start (phrase-read o) .args .book .now))
+ordinal-inside k = let o = second-at (ordinal-read (title-read k)) in (o .ordered, o .inside refl)
+
+dates-inside : (k : tie.After-known-told4) → let o = ordinal-read (title-read k) in
+    (k .before .fourth .given .0 .0 ≤ k .before .fourth .given .0 .1 .0) × (k .before .fourth .given .0 .1 .0 ≤ length (start (phrase-read o) .args .book .now))
+dates-inside k = let d = fourth-at k in (d .ordered, d .no-further (third-at (title-read k) .inside refl))
 
 -- the cue's refusal is that of the fields after those read
 after-first : (k : tie.After-known-told) → let a = start k .args in
-    cueRefusal (drop (a .place) (a .book .now)) ≡ formRefusal (Ordinal ∷ Title ∷ []) (drop (k .before .first .given .0 .1 .0) (a .book .now))
+    cueRefusal (drop (a .place) (a .book .now)) ≡ formRefusal (Ordinal ∷ Title ∷ Dates ∷ []) (drop (k .before .first .given .0 .1 .0) (a .book .now))
 unfolding cueRefusal
-after-first k = step-refusal (first-at k) (Ordinal ∷ Title ∷ [])
+after-first k = step-refusal (first-at k) (Ordinal ∷ Title ∷ Dates ∷ [])
 
 after-second : (k : tie.After-known-told2) → let a = start (phrase-read k) .args in
-    cueRefusal (drop (a .place) (a .book .now)) ≡ formRefusal (Title ∷ []) (drop (k .before .second .given .0 .1 .0) (a .book .now))
-after-second k = after-first (phrase-read k) ∙ step-refusal (second-at k) (Title ∷ [])
+    cueRefusal (drop (a .place) (a .book .now)) ≡ formRefusal (Title ∷ Dates ∷ []) (drop (k .before .second .given .0 .1 .0) (a .book .now))
+after-second k = after-first (phrase-read k) ∙ step-refusal (second-at k) (Title ∷ Dates ∷ [])
+
+after-third : (k : tie.After-known-told3) → let a = start (phrase-read (ordinal-read k)) .args in
+    cueRefusal (drop (a .place) (a .book .now)) ≡ formRefusal (Dates ∷ []) (drop (k .before .third .given .0 .1 .0) (a .book .now))
+after-third k = after-second (ordinal-read k) ∙ step-refusal (third-at k) (Dates ∷ [])
 
 -- a field that was refused, after those read
-refused : {book : List ℕ} {at place : ℕ} {due : Due} {r : FieldAnswer} {number : ℕ} (dues : List Due) → cueRefusal (drop place book) ≡ formRefusal (due ∷ dues) (drop at book) → FieldRead book at due r
+refused : {book : List ℕ} {at place : ℕ} {due : Due} {r : FieldAnswer} {number : ℕ} (dues : List Due) → cueRefusal (drop place book) ≡ formRefusal (due ∷ dues) (drop at book) → DueRead book at due r
     → declared.tagOf answers.the-type r ≡ 1 → number ≡ fieldNumber r → CueRead book place (answer.Refused number)
 refused {book} {at} {place} {due} dues so-far read tag e =
-    let some = refused-some read tag in
+    let some = due-some read tag in
     cue-refused book place (so-far ∙ form-refused due dues (drop at book) (sym (read .number)) some ∙ sym e) (λ z. some (sym e ∙ z))
 
-read-field-requires : tie.Need-read-field-requires
-read-field-requires c κs = search needs
+read-phrase-requires : tie.Need-read-phrase-requires
+read-phrase-requires c κs = search needs
 
 enum-known-first : tie.Need-enum-known-first
 enum-known-first c = search needs
@@ -76,10 +94,10 @@ field-number-requires c κs = search needs
 
 returns : tie.Need-returns
 unfolding cueRefusal
-returns c = refused (Ordinal ∷ Title ∷ []) refl (c .before .before .before .read-field .ensures) (c .before .before .match .keys2) (c .field-number .ensures)
+returns c = refused (Ordinal ∷ Title ∷ Dates ∷ []) refl (due-stands refl (c .before .before .before .read-phrase .ensures)) (c .before .before .match .keys2) (c .field-number .ensures)
 
-read-field-requires-2 : tie.Need-read-field-requires-2
-read-field-requires-2 c κs = search needs
+read-ordinal-requires : tie.Need-read-ordinal-requires
+read-ordinal-requires c κs = search needs
 
 enum-known-second : tie.Need-enum-known-second
 enum-known-second c = search needs
@@ -91,10 +109,10 @@ field-number-requires-2 : tie.Need-field-number-requires-2
 field-number-requires-2 c κs = search needs
 
 returns-2 : tie.Need-returns-2
-returns-2 c = let r = c .before .before .before in refused (Title ∷ []) (after-first (r .before)) (r .read-field2 .ensures) (c .before .before .match2 .keys2) (c .field-number2 .ensures)
+returns-2 c = let r = c .before .before .before in refused (Title ∷ Dates ∷ []) (after-first (r .before)) (due-stands refl (r .read-ordinal .ensures)) (c .before .before .match2 .keys2) (c .field-number2 .ensures)
 
-read-field-requires-3 : tie.Need-read-field-requires-3
-read-field-requires-3 c κs = search needs
+read-title-requires : tie.Need-read-title-requires
+read-title-requires c κs = search needs
 
 enum-known-third : tie.Need-enum-known-third
 enum-known-third c = search needs
@@ -106,16 +124,31 @@ field-number-requires-3 : tie.Need-field-number-requires-3
 field-number-requires-3 c κs = search needs
 
 returns-3 : tie.Need-returns-3
-returns-3 c = let r = c .before .before .before in refused [] (after-second (r .before)) (r .read-field3 .ensures) (c .before .before .match3 .keys2) (c .field-number3 .ensures)
+returns-3 c = let r = c .before .before .before in refused (Dates ∷ []) (after-second (r .before)) (due-stands refl (r .read-title .ensures)) (c .before .before .match3 .keys2) (c .field-number3 .ensures)
+
+read-due-requires : tie.Need-read-due-requires
+read-due-requires c κs = search needs
+
+enum-known-fourth : tie.Need-enum-known-fourth
+enum-known-fourth c = search needs
+
+enum-told-4 : tie.Need-enum-told-4
+enum-told-4 c = search needs
+
+field-number-requires-4 : tie.Need-field-number-requires-4
+field-number-requires-4 c κs = search needs
+
+returns-4 : tie.Need-returns-4
+returns-4 c = let r = c .before .before .before in refused [] (after-third (r .before)) (r .read-due .ensures) (c .before .before .match4 .keys2) (c .field-number4 .ensures)
 
 sub-number-at : tie.Need-sub-number-at
-sub-number-at c = omega (arith, body-inside (second-at (ordinal-read c)) .0, title-inside c .0)
+sub-number-at c = omega (arith, ordinal-inside c .0)
 
 part-number-at-start : tie.Need-part-number-at-start
-part-number-at-start c = omega (arith, body-inside (second-at (ordinal-read c)) .0, title-inside c .0)
+part-number-at-start c = omega (arith, ordinal-inside c .0)
 
 part-number-at-end : tie.Need-part-number-at-end
-part-number-at-end c = omega (arith, body-inside (second-at (ordinal-read c)) .1, title-inside c .1)
+part-number-at-end c = omega (arith, ordinal-inside c .1)
 
 number-at-requires : tie.Need-number-at-requires
 number-at-requires c κs = search needs
@@ -123,34 +156,57 @@ number-at-requires c κs = search needs
 cast-ordinal : tie.Need-cast-ordinal
 cast-ordinal c = search needs
 
-returns-4 : tie.Need-returns-4
-returns-4 c =
-    let k = c .before .before in
-    let s = ordinal-read k in
-    cue-read (first-at (phrase-read s)) (second-at s) (body-at (k .before .before .before .read-field3 .ensures) (k .before .third .given .1)) (c .number-at .ensures .0)
+sub-days-in : tie.Need-sub-days-in
+sub-days-in c = omega (arith, dates-inside (c .before .before) .0)
+
+part-days-in-start : tie.Need-part-days-in-start
+part-days-in-start c = omega (arith, dates-inside (c .before .before) .0)
+
+part-days-in-end : tie.Need-part-days-in-end
+part-days-in-end c = omega (arith, dates-inside (c .before .before) .1)
+
+days-in-requires : tie.Need-days-in-requires
+days-in-requires c κs = search needs
+
+returns-5 : tie.Need-returns-5
+returns-5 c =
+    let n = c .before .before in
+    let k = n .before .before in
+    let t = title-read k in
+    let o = ordinal-read t in
+    cue-read (first-at (phrase-read o)) (second-at o) (third-at t) (fourth-at k) (n .number-at .ensures .0) (c .days-in .ensures)
 
 pub read-cue-spec : {M : Type 1} → statement M
 read-cue-spec =
     tie.close
     (tie.spec
-    read-field-requires
+    read-phrase-requires
     enum-known-first
     enum-told
     field-number-requires
     returns
-    read-field-requires-2
+    read-ordinal-requires
     enum-known-second
     enum-told-2
     field-number-requires-2
     returns-2
-    read-field-requires-3
+    read-title-requires
     enum-known-third
     enum-told-3
     field-number-requires-3
     returns-3
+    read-due-requires
+    enum-known-fourth
+    enum-told-4
+    field-number-requires-4
+    returns-4
     sub-number-at
     part-number-at-start
     part-number-at-end
     number-at-requires
     cast-ordinal
-    returns-4)
+    sub-days-in
+    part-days-in-start
+    part-days-in-end
+    days-in-requires
+    returns-5)

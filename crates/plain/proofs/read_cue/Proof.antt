@@ -7,26 +7,41 @@ use Rattle.plain.specs.Plain.{cuePassed}
 use Rattle.plain.proofs.read_cue.Statement.{statement}
 use Rattle.plain.proofs.read_cue.Tie as tie
 
+-- where the cue was read
+abbrev read : tie.After-answer → tie.After-read-cue
+read a = a .before .before
+
 read-cue-requires : tie.Need-read-cue-requires
 read-cue-requires c κs = search needs
 
 enum-known-answer : tie.Need-enum-known-answer
 enum-known-answer c = search needs
 
-sub-t11 : tie.Need-sub-t11
-sub-t11 c = let there = cue-at (c .before .before .before .read-cue .ensures) (c .before .answer .given .1) in omega arith
+passed-days-requires : tie.Need-passed-days-requires
+passed-days-requires c κs = search needs
 
-sub-t12 : tie.Need-sub-t12
-sub-t12 c = let there = title-ends (cue-at (c .before .before .before .read-cue .ensures) (c .before .answer .given .1)) in omega arith
+sub-t14 : tie.Need-sub-t14
+sub-t14 c =
+    let a = c .before .before in
+    let there = cue-at (read a .read-cue .ensures) (a .answer .given .1) in
+    omega arith
+
+sub-t15 : tie.Need-sub-t15
+sub-t15 c =
+    let a = c .before .before in
+    let there = title-ends (cue-at (read a .read-cue .ensures) (a .answer .given .1)) in
+    omega arith
 
 enum-known-answer-2 : tie.Need-enum-known-answer-2
 enum-known-answer-2 c = search needs
 
 returns : tie.Need-returns
-returns c = ap cuePassed (sym (c .before .answer .given .1) ∙ c .before .before .before .read-cue .ensures .answer)
+returns c =
+    let a = c .before .before in
+    rw (c .passed-days .ensures) (ap cuePassed (sym (a .answer .given .1) ∙ read a .read-cue .ensures .answer))
 
 returns-2 : tie.Need-returns-2
 returns-2 c = ap cuePassed (sym (c .before .answer2 .given .1) ∙ c .before .before .before .read-cue .ensures .answer)
 
 pub read-cue-spec : {M : Type 1} → statement M
-read-cue-spec = tie.close (tie.spec read-cue-requires enum-known-answer sub-t11 sub-t12 enum-known-answer-2 returns returns-2)
+read-cue-spec = tie.close (tie.spec read-cue-requires enum-known-answer passed-days-requires sub-t14 sub-t15 enum-known-answer-2 returns returns-2)

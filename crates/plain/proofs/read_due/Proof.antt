@@ -4,13 +4,15 @@ use mathlib.Core.Path.{_≡_, sym, _∙_}
 use native.Mathlib.Omega.{arith}
 use lib.ListN.{length-drop}
 use Rattle.plain.specs.Plain.{unknownAt, fieldDue}
-use Rattle.plain.proofs.Plain.{due-phrase, due-ordinal, due-title, due-unknown, unknown-short, unknown-tag}
+use Rattle.plain.proofs.Plain.{due-phrase, due-ordinal, due-title, due-dates, due-unknown, unknown-short, unknown-tag}
 use Rattle.plain.proofs.read_due.Statement.{statement}
 use Rattle.plain.proofs.read_due.Tie as tie
 
 -- the number is no tag
-unknown : (e : tie.Else3) → let a = e .before .before .before .before .args in fieldDue (a .book .now) (a .place) (a .due) ≡ unknownAt (a .book .now) (a .place)
-unknown e = let a = e .before .before .before .before .args in due-unknown (a .book .now) (a .place) (a .due) (e .before .before .if1 .left) (e .before .if2 .left) (e .if3 .left)
+unknown : (e : tie.Else4) → let a = e .before .before .before .before .before .args in fieldDue (a .book .now) (a .place) (a .due) ≡ unknownAt (a .book .now) (a .place)
+unknown e =
+    let a = e .before .before .before .before .before .args in
+    due-unknown (a .book .now) (a .place) (a .due) (e .before .before .before .if1 .left) (e .before .before .if2 .left) (e .before .if3 .left) (e .if4 .left)
 
 read-field-requires : tie.Need-read-field-requires
 read-field-requires c κs = search needs
@@ -34,20 +36,31 @@ returns-3 c =
     let a = c .before .before .before .before .before .args in
     c .read-field3 .ensures .answer ∙ sym (due-title (a .book .now) (a .place) (a .due) (c .before .before .before .if1 .left) (c .before .before .if2 .left) (c .before .if3 .taken))
 
-returns-4 : tie.Need-returns-4
-returns-4 c = let a = c .before .before .before .before .before .args in sym (unknown (c .before) ∙ unknown-short (a .book .now) (a .place) (omega (arith, length-drop (a .place) (a .book .now))))
+read-field-requires-4 : tie.Need-read-field-requires-4
+read-field-requires-4 c κs = search needs
 
-sub-if5 : tie.Need-sub-if5
-sub-if5 c = search needs
+returns-4 : tie.Need-returns-4
+returns-4 c =
+    let e = c .before .before in
+    let a = e .before .before .before .before .args in
+    c .read-field4 .ensures .answer ∙ sym (due-dates (a .book .now) (a .place) (a .due) (e .before .before .if1 .left) (e .before .if2 .left) (e .if3 .left) (c .before .if4 .taken))
 
 returns-5 : tie.Need-returns-5
 returns-5 c =
     let a = c .before .before .before .before .before .before .args in
-    sym (unknown (c .before .before) ∙ unknown-short (a .book .now) (a .place) (omega (arith, length-drop (a .place) (a .book .now))))
+    sym (unknown (c .before) ∙ unknown-short (a .book .now) (a .place) (omega (arith, length-drop (a .place) (a .book .now))))
+
+sub-if6 : tie.Need-sub-if6
+sub-if6 c = search needs
 
 returns-6 : tie.Need-returns-6
 returns-6 c =
-    let a = c .before .before .before .before .before .before .args in
+    let a = c .before .before .before .before .before .before .before .args in
+    sym (unknown (c .before .before) ∙ unknown-short (a .book .now) (a .place) (omega (arith, length-drop (a .place) (a .book .now))))
+
+returns-7 : tie.Need-returns-7
+returns-7 c =
+    let a = c .before .before .before .before .before .before .before .args in
     sym (unknown (c .before .before) ∙ unknown-tag (a .book .now) (a .place) (omega (arith, length-drop (a .place) (a .book .now))))
 
 pub read-due-spec : {M : Type 1} → statement M
@@ -60,7 +73,9 @@ read-due-spec =
     returns-2
     read-field-requires-3
     returns-3
+    read-field-requires-4
     returns-4
-    sub-if5
     returns-5
-    returns-6)
+    sub-if6
+    returns-6
+    returns-7)
