@@ -33,10 +33,13 @@ use Rattle.phrases.specs.Phrases as phrases
 use Rattle.phrases.specs.Phrases.{endings}
 use Rattle.phrases.specs.States.{state, step}
 use Rattle.phrases.specs.Counts.{counts}
+use Rattle.calendar.specs.Calendar.{dayAnswer, dateAnswer}
+use Rattle.cues.specs.declared.Days.{Days}
+use Rattle.cues.specs.declared.Days.the-variants.{Always, Within}
 use Rattle.cues.specs.Cue.{Cue, cueWith}
 use Rattle.cue_book.specs.Book.{bookBytes}
-use Rattle.cue_book.specs.Reading.{Reading, refused, cues, readBook}
-use Rattle.outcome.specs.Outcome.{numberedFrom, chosen, groups, Resolution, resolution, outcome}
+use Rattle.cue_book.specs.Reading.{Reading, refused, cues, readBook, refusalOf, numberOf}
+use Rattle.outcome.specs.Outcome.{chosenFrom, chosen, groups, Resolution, resolution, outcome}
 
 -- a row: what is asked, and the answer that the document gives
 pub data Case : Type 0 where
@@ -61,16 +64,21 @@ pub data Case : Type 0 where
   fold : ℕ → ℕ → ℕ → ℕ → Case
   -- a book's bytes, and the cues that it reads as
   book : List ℕ → List Cue → Case
-  -- a page, a book and a text, the three numbers that resolving gives back, and the entries written; the memory lent is just enough for one cue
-  resolve : ℕ → List ℕ → List ℕ → ℕ → ℕ → ℕ → List ℕ → Case
+  -- a date by year, month and day, and the two numbers that its day is given back by; and a day, and the four numbers that its date is
+  day : ℕ → ℕ → ℕ → ℕ → ℕ → Case
+  date : ℕ → ℕ → ℕ → ℕ → ℕ → Case
+  -- a refused book's bytes, the refusal and the index of its cue
+  refusedBook : List ℕ → ℕ → ℕ → Case
+  -- a day, a page, a book and a text, the three numbers that resolving gives back, and the entries written; the memory lent is just enough for one cue
+  resolve : ℕ → ℕ → List ℕ → List ℕ → ℕ → ℕ → ℕ → List ℕ → Case
   -- phrases and a text, and at each letter the number of the phrases that end there, by what was read and by the states' steps
   ended : List (List ℕ) → List ℕ → List ℕ → Case
   -- phrases, a text and an ordinal for each phrase: what is left of the ordinals, and the places, where 9 stood before
   counted : List (List ℕ) → List ℕ → List ℕ → List ℕ → List ℕ → Case
   -- the groups of cues by the lengths of their phrases: so many cues of each length, and how many cues each group has
   grouping : List (ℕ × ℕ) → List ℕ → Case
-  -- a text, and cues one after another as they are chosen from a book, by page 1's fold: the three numbers and the entries that come of them
-  judged : List ℕ → List Cue → ℕ → ℕ → ℕ → List ℕ → Case
+  -- a day, a text, and the cues of a book, by page 1's fold: the three numbers and the entries that come of them
+  judged : ℕ → List ℕ → List Cue → ℕ → ℕ → ℕ → List ℕ → Case
 
 -- the entry given to a letter, or the entry of the others
 unfoldable pub given : List ℕ → List ℕ → ℕ → ℕ → ℕ
@@ -83,13 +91,27 @@ unfoldable pub movesFrom : ℕ → List ℕ → List ℕ
 movesFrom q [] = []
 movesFrom q (b ∷ entries) = (suc q - b) ∷ movesFrom (suc q) entries
 
+-- a cue that plays always, and the same one from a first to a last day
+abbrev pub always : List ℕ → ℕ → List ℕ → Cue
+always phrase ordinal title = cueWith phrase ordinal title Always
+
+abbrev pub within : Cue → ℕ → ℕ → Cue
+within c first last = cueWith (c .phrase) (c .ordinal) (c .title) (Within first last)
+
+-- the same days
+unfoldable pub sameDays : Days → Days → Bool
+sameDays Always Always = true
+sameDays Always (Within first last) = false
+sameDays (Within first last) Always = false
+sameDays (Within first last) (Within first′ last′) = eqb first first′ && eqb last last′
+
 -- the same cues, field by field
 unfoldable pub sameCues : List Cue → List Cue → Bool
-unfolding same
+unfolding same sameDays
 sameCues [] [] = true
 sameCues [] (d ∷ ds) = false
 sameCues (c ∷ cs) [] = false
-sameCues (c ∷ cs) (d ∷ ds) = same (c .phrase) (d .phrase) && eqb (c .ordinal) (d .ordinal) && same (c .title) (d .title) && sameCues cs ds
+sameCues (c ∷ cs) (d ∷ ds) = same (c .phrase) (d .phrase) && eqb (c .ordinal) (d .ordinal) && same (c .title) (d .title) && sameDays (c .days) (d .days) && sameCues cs ds
 
 -- a reading of exactly these cues
 unfoldable pub readsAs : Reading → List Cue → Bool
@@ -105,7 +127,7 @@ comesTo o refusal number reads entries = eqb (o .refusal) refusal && eqb (o .num
 -- the first occurrences of a, so many of them, from one on
 unfoldable pub asFrom : ℕ → ℕ → List Cue
 asFrom ordinal zero = []
-asFrom ordinal (suc k) = cueWith (97 ∷ []) ordinal [] ∷ asFrom (suc ordinal) k
+asFrom ordinal (suc k) = always (97 ∷ []) ordinal [] ∷ asFrom (suc ordinal) k
 
 -- the entries of places one after another in the first line, so many of them, from one on
 unfoldable pub inARow : ℕ → ℕ → List ℕ
@@ -115,11 +137,11 @@ inARow place (suc k) = place ∷ 1 ∷ suc place ∷ inARow (suc place) k
 -- cues with phrases of these lengths, so many of each
 unfoldable pub cuesOfLengths : List (ℕ × ℕ) → List Cue
 cuesOfLengths [] = []
-cuesOfLengths (n ∷ ns) = replicate (n .0) (cueWith (replicate (n .1) 97) 1 []) ++ cuesOfLengths ns
+cuesOfLengths (n ∷ ns) = replicate (n .0) (always (replicate (n .1) 97) 1 []) ++ cuesOfLengths ns
 
 -- a row holds: the definitions give its answer
 unfoldable pub holds : Case → Bool
-unfolding same tabulate lastIn gap widest widestAt kmpEntry maxShift shift given movesFrom occurrences runFrom positionsIn compared window movesIn numbers bm.window improved.window relisted letterAnswer readsAs readBook bookBytes comesTo outcome resolution numberedFrom groups cuesOfLengths endings state phrases.numbers counts
+unfolding same tabulate lastIn gap widest widestAt kmpEntry maxShift shift given movesFrom occurrences runFrom positionsIn compared window movesIn numbers bm.window improved.window relisted letterAnswer dayAnswer dateAnswer readsAs readBook bookBytes comesTo outcome resolution chosenFrom groups cuesOfLengths endings state phrases.numbers counts
 holds (kmpEntries P entries moves) = same (kmpTable P) entries && same (movesFrom 0 (kmpTable P)) moves
 holds (sundayEntries P letters entries others) = same (sundayTable P) (tabulate 256 (given letters entries others))
 holds (horspoolEntries P letters entries others) = same (horspoolTable P) (tabulate 256 (given letters entries others))
@@ -131,14 +153,17 @@ holds (windowMoves P T entries) = same (numbers (fjs-moves.moves P T)) entries
 holds (lateCut P T list start end letters places own) = same (relisted P T list (cut start end letters)) places && same (occurrences P (newText T (cut start end letters))) own
 holds (fold page letter refusal number) = eqb (letterAnswer page letter .refusal) refusal && eqb (letterAnswer page letter .number) number
 holds (book bytes cs) = readsAs (readBook bytes) cs && same (bookBytes cs) bytes
-holds (resolve page bytes T refusal number reads entries) =
-    comesTo (outcome (foldOn page) (record { page = page; text = T; copy = length T; scratch = 65535; entries = 3 }) (readBook bytes) .resolution) refusal number reads entries
+holds (day year month d refusal number) = eqb (dayAnswer year month d .refusal) refusal && eqb (dayAnswer year month d .number) number
+holds (date n refusal year month d) = eqb (dateAnswer n .refusal) refusal && eqb (dateAnswer n .year) year && eqb (dateAnswer n .month) month && eqb (dateAnswer n .day) d
+holds (refusedBook bytes refusal index) = eqb (refusalOf (readBook bytes)) refusal && eqb (numberOf (readBook bytes)) index
+holds (resolve on page bytes T refusal number reads entries) =
+    comesTo (outcome (foldOn page) (record { day = on; page = page; text = T; copy = length T; scratch = 65535; entries = 3 }) (readBook bytes) .resolution) refusal number reads entries
 holds (ended ps T es) = same (endings ps [] T) es && same (phrases.numbers (step ps) [] T) es
 holds (counted ps T ordinals left places) =
     let c = counts 0 (map length ps) (endings ps [] T) (record { left = ordinals; place = replicate (length ps) 9 }) in
     same (c .left) left && same (c .place) places
 holds (grouping lengths sizes) = same (map length (groups (cuesOfLengths lengths))) sizes
-holds (judged T cs refusal number reads entries) = comesTo (resolution (foldOn 1) T (chosen cs)) refusal number reads entries
+holds (judged on T cs refusal number reads entries) = comesTo (resolution (foldOn 1) T (chosen on cs)) refusal number reads entries
 
 -- every row holds
 unfoldable pub allHold : List Case → Bool
@@ -196,6 +221,10 @@ ABYXCDEYX = 65 ∷ 66 ∷ 89 ∷ 88 ∷ 67 ∷ 68 ∷ 69 ∷ 89 ∷ 88 ∷ []
 -- the book la, 2, No
 abbrev laNo : List ℕ
 laNo = 0x01 ∷ 0x00 ∷ 0x02 ∷ 0x6C ∷ 0x61 ∷ 0x02 ∷ 0x00 ∷ 0x02 ∷ 0x00 ∷ 0x02 ∷ 0x03 ∷ 0x00 ∷ 0x02 ∷ 0x4E ∷ 0x6F ∷ []
+
+-- dates of these four bytes: the first day and the last, high byte first
+abbrev dates : ℕ → ℕ → ℕ → ℕ → List ℕ
+dates a b c d = 0x04 ∷ 0x00 ∷ 0x04 ∷ a ∷ b ∷ c ∷ d ∷ []
 
 -- a book of one cue: the first Œ of ISO 8859-15, and no title
 abbrev oe : List ℕ
@@ -267,13 +296,46 @@ cases =
     ∷ fold 0 0xC9 14 0
     ∷ fold 2 0xC9 14 0
     ∷ fold 16 0xC9 14 0
-    ∷ book laNo (cueWith la 2 (78 ∷ 111 ∷ []) ∷ [])
-    ∷ resolve 1 laNo (la ++ 10 ∷ la) 0 1 5 (3 ∷ 2 ∷ 1 ∷ [])
-    ∷ resolve 1 laNo la 12 0 2 []
-    ∷ resolve 15 oe (la ++ 0xBD ∷ []) 0 1 3 (2 ∷ 1 ∷ 3 ∷ [])
-    ∷ resolve 1 oe (la ++ 0xBD ∷ []) 12 0 3 []
-    ∷ resolve 0 oe (la ++ 0xBD ∷ []) 14 0 0 []
-    ∷ resolve 1 [] la 0 0 0 []
+    ∷ book laNo (always la 2 (78 ∷ 111 ∷ []) ∷ [])
+    ∷ resolve 0 1 laNo (la ++ 10 ∷ la) 0 1 5 (3 ∷ 2 ∷ 1 ∷ [])
+    ∷ resolve 0 1 laNo la 12 0 2 []
+    ∷ resolve 0 15 oe (la ++ 0xBD ∷ []) 0 1 3 (2 ∷ 1 ∷ 3 ∷ [])
+    ∷ resolve 0 1 oe (la ++ 0xBD ∷ []) 12 0 3 []
+    ∷ resolve 0 0 oe (la ++ 0xBD ∷ []) 14 0 0 []
+    ∷ resolve 0 1 [] la 0 0 0 []
+    ∷ day 2000 1 1 0 0
+    ∷ day 2000 2 29 0 59
+    ∷ day 2000 12 31 0 365
+    ∷ day 2004 2 29 0 1520
+    ∷ day 2099 12 31 0 36524
+    ∷ day 2001 2 29 16 0
+    ∷ day 2026 4 31 16 0
+    ∷ day 2026 0 1 16 0
+    ∷ day 2026 13 1 16 0
+    ∷ day 2026 1 0 16 0
+    ∷ day 1999 12 31 16 0
+    ∷ day 2100 1 1 16 0
+    ∷ date 0 0 2000 1 1
+    ∷ date 59 0 2000 2 29
+    ∷ date 60 0 2000 3 1
+    ∷ date 366 0 2001 1 1
+    ∷ date 36525 16 0 0 0
+    ∷ book (laNo ++ dates 0 0 0x8E 0xAC) (within (always la 2 (78 ∷ 111 ∷ [])) 0 36524 ∷ [])
+    ∷ book (laNo ++ dates 0x24 0xFC 0x25 0x1A ++ laNo) (within (always la 2 (78 ∷ 111 ∷ [])) 9468 9498 ∷ always la 2 (78 ∷ 111 ∷ []) ∷ [])
+    ∷ refusedBook (laNo ++ dates 0 0 0x8E 0xAD) 16 0
+    ∷ refusedBook (laNo ++ dates 0x8E 0xAD 0 0) 16 0
+    ∷ refusedBook (laNo ++ laNo ++ dates 0 2 0 1) 16 1
+    ∷ refusedBook (laNo ++ dates 0 1 0 1 ++ dates 0 1 0 1) 8 1
+    ∷ refusedBook (laNo ++ 4 ∷ 0 ∷ 3 ∷ []) 9 0
+    ∷ refusedBook (laNo ++ 4 ∷ 0 ∷ 4 ∷ 0x8E ∷ 0xAD ∷ 0 ∷ []) 7 0
+    ∷ refusedBook (laNo ++ 4 ∷ 0 ∷ []) 7 0
+    ∷ resolve 9468 1 (laNo ++ dates 0x24 0xFC 0x25 0x1A) (la ++ 10 ∷ la) 0 1 5 (3 ∷ 2 ∷ 1 ∷ [])
+    ∷ resolve 9498 1 (laNo ++ dates 0x24 0xFC 0x25 0x1A) (la ++ 10 ∷ la) 0 1 5 (3 ∷ 2 ∷ 1 ∷ [])
+    ∷ resolve 9467 1 (laNo ++ dates 0x24 0xFC 0x25 0x1A) (la ++ 10 ∷ la) 0 0 0 []
+    ∷ resolve 9499 1 (laNo ++ dates 0x24 0xFC 0x25 0x1A) (la ++ 10 ∷ la) 0 0 0 []
+    ∷ resolve 9499 1 (laNo ++ dates 0x24 0xFC 0x25 0x1A ++ laNo) la 12 1 2 []
+    ∷ resolve 36524 1 laNo (la ++ 10 ∷ la) 0 1 5 (3 ∷ 2 ∷ 1 ∷ [])
+    ∷ resolve 36525 0 laNo (la ++ 10 ∷ la) 16 0 0 []
     ∷ ended heSheHisHers ushers (0 ∷ 0 ∷ 0 ∷ 3 ∷ 0 ∷ 8 ∷ [])
     ∷ ended (wordA ∷ aba ∷ wordA ∷ []) (aba ++ aba) (5 ∷ 0 ∷ 7 ∷ 5 ∷ 0 ∷ 7 ∷ [])
     ∷ counted heSheHisHers ushers (1 ∷ 1 ∷ 1 ∷ 1 ∷ []) (0 ∷ 0 ∷ 1 ∷ 0 ∷ []) (2 ∷ 1 ∷ 9 ∷ 2 ∷ [])
@@ -287,14 +349,18 @@ cases =
     ∷ grouping ((4, 1024) ∷ (1, 1) ∷ []) (4 ∷ 1 ∷ [])
     ∷ grouping ((3, 1024) ∷ (1, 1023) ∷ (2, 1) ∷ []) (5 ∷ 1 ∷ [])
     ∷ grouping ((64, 64) ∷ (1, 1) ∷ []) (64 ∷ 1 ∷ [])
-    ∷ judged aba (cueWith ab 1 [] ∷ cueWith wordB 1 [] ∷ cueWith wordA 2 [] ∷ []) 0 3 3 (0 ∷ 1 ∷ 1 ∷ 1 ∷ 1 ∷ 2 ∷ 2 ∷ 1 ∷ 3 ∷ [])
-    ∷ judged aba (cueWith wordA 1 [] ∷ cueWith wordB 2 [] ∷ asFrom 1 63) 12 1 3 (0 ∷ 1 ∷ 1 ∷ [])
-    ∷ judged (replicate 65 97) (asFrom 1 64 ++ cueWith wordA 66 [] ∷ []) 12 64 130 (inARow 0 64)
-    ∷ judged (replicate 65 97) (asFrom 1 65) 0 65 130 (inARow 0 65)
-    ∷ judged (replicate 65 97) (asFrom 1 64 ++ cueWith wordA 64 [] ∷ []) 15 64 130 (inARow 0 64)
-    ∷ judged aba (cueWith wordA 2 [] ∷ cueWith ab 1 [] ∷ []) 15 1 3 (2 ∷ 1 ∷ 3 ∷ [])
-    ∷ judged aba (cueWith wordA 1 [] ∷ cueWith ab 1 [] ∷ []) 15 1 3 (0 ∷ 1 ∷ 1 ∷ [])
-    ∷ judged aba (cueWith wordA 1 [] ∷ cueWith wordA 2 [] ∷ cueWith wordB 1 [] ∷ []) 15 2 3 (0 ∷ 1 ∷ 1 ∷ 2 ∷ 1 ∷ 3 ∷ [])
-    ∷ judged aba (cueWith wordA 2 [] ∷ cueWith wordB 2 [] ∷ cueWith wordB 1 [] ∷ []) 12 1 3 (2 ∷ 1 ∷ 3 ∷ [])
-    ∷ judged aba (cueWith wordA 2 [] ∷ cueWith wordB 1 [] ∷ cueWith wordB 2 [] ∷ []) 15 1 3 (2 ∷ 1 ∷ 3 ∷ [])
+    ∷ judged 0 aba (always ab 1 [] ∷ always wordB 1 [] ∷ always wordA 2 [] ∷ []) 0 3 3 (0 ∷ 1 ∷ 1 ∷ 1 ∷ 1 ∷ 2 ∷ 2 ∷ 1 ∷ 3 ∷ [])
+    ∷ judged 0 aba (always wordA 1 [] ∷ always wordB 2 [] ∷ asFrom 1 63) 12 1 3 (0 ∷ 1 ∷ 1 ∷ [])
+    ∷ judged 0 (replicate 65 97) (asFrom 1 64 ++ always wordA 66 [] ∷ []) 12 64 130 (inARow 0 64)
+    ∷ judged 0 (replicate 65 97) (asFrom 1 65) 0 65 130 (inARow 0 65)
+    ∷ judged 0 (replicate 65 97) (asFrom 1 64 ++ always wordA 64 [] ∷ []) 15 64 130 (inARow 0 64)
+    ∷ judged 0 aba (always wordA 2 [] ∷ always ab 1 [] ∷ []) 15 1 3 (2 ∷ 1 ∷ 3 ∷ [])
+    ∷ judged 0 aba (always wordA 1 [] ∷ always ab 1 [] ∷ []) 15 1 3 (0 ∷ 1 ∷ 1 ∷ [])
+    ∷ judged 0 aba (always wordA 1 [] ∷ always wordA 2 [] ∷ always wordB 1 [] ∷ []) 15 2 3 (0 ∷ 1 ∷ 1 ∷ 2 ∷ 1 ∷ 3 ∷ [])
+    ∷ judged 0 aba (always wordA 2 [] ∷ always wordB 2 [] ∷ always wordB 1 [] ∷ []) 12 1 3 (2 ∷ 1 ∷ 3 ∷ [])
+    ∷ judged 0 aba (always wordA 2 [] ∷ always wordB 1 [] ∷ always wordB 2 [] ∷ []) 15 1 3 (2 ∷ 1 ∷ 3 ∷ [])
+    ∷ judged 5 aba (within (always wordC 1 []) 0 4 ∷ always wordA 1 [] ∷ within (always wordA 2 []) 6 9 ∷ within (always wordB 1 []) 5 5 ∷ []) 0 2 3 (0 ∷ 1 ∷ 1 ∷ 1 ∷ 1 ∷ 2 ∷ [])
+    ∷ judged 5 aba (within (always wordC 1 []) 0 4 ∷ always wordA 1 [] ∷ within (always wordA 2 []) 6 9 ∷ within (always wordC 1 []) 0 5 ∷ []) 12 3 3 (0 ∷ 1 ∷ 1 ∷ [])
+    ∷ judged 5 aba (within (always wordC 1 []) 0 4 ∷ always wordA 2 [] ∷ within (always wordA 1 []) 6 9 ∷ within (always wordB 1 []) 5 6 ∷ []) 15 3 3 (2 ∷ 1 ∷ 3 ∷ [])
+    ∷ judged 5 (replicate 65 97) (map (λ c. within c 6 6) (asFrom 1 64) ++ asFrom 1 64) 0 64 65 (inARow 0 64)
     ∷ []

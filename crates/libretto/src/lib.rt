@@ -1,6 +1,7 @@
 // This crate is the C interface: each function is exported under the name that include/libretto.h gives it, and carries the exact contract of what it wraps.
 // `rt staticlib libretto` makes the archive that C and Rust link.
-// It depends on `find`, `fjs`, `late_cuts`, `fold`, `plain`, `cue_book`, `cue_writer` and `resolver` for what it exports, on `fjs_steps`, `cuts` and `cues` for what a find by FJS, a cut and a cue are, and on `matching` for a finding and an answer.
+// It depends on `find`, `fjs`, `late_cuts`, `fold`, `calendar`, `plain`, `cue_book` and `resolver` for what it exports, on `fjs_steps`, `cuts`, `cues` and `cue_writer` for what a find by FJS, a cut, a cue and one that is written are, and on `matching` for a finding and an answer.
+use calendar::CalendarDate;
 use cue_book::Part;
 use fjs::MovesFinding;
 use fold::Folding;
@@ -17,12 +18,13 @@ ghost use Rattle.find.specs.Find.{Answered};
 ghost use Rattle.cuts.specs.Cuts.{cut};
 ghost use Rattle.late_cuts.specs.LateCuts.{Relisted};
 ghost use Rattle.fold.specs.Fold.{letterAnswer, LettersFolded};
+ghost use Rattle.calendar.specs.Calendar.{dayAnswer, dateAnswer};
 ghost use Rattle.cues.specs.Cue.{cueWith};
 ghost use Rattle.cues.specs.Places.{cueAt};
 ghost use Rattle.cue_book.specs.Places.{bookAnswer, TitlePlaced};
 ghost use Rattle.cue_writer.specs.Writing.{Written};
 ghost use Rattle.resolver.specs.Resolver.{Resolved};
-ghost use Rattle.plain.specs.Plain.{fieldDue, fieldPassed, cuePassed};
+ghost use Rattle.plain.specs.Plain.{fieldDue, fieldPassed, cuePassed, daysGiven};
 
 // A find by a method number. Slices pass as pointer and length, the finding as a struct of three 32-bit numbers.
 #[no_mangle]
@@ -86,6 +88,22 @@ pub extern "C" fn libretto_fold_text(page: u32, text: &[u8], target: &mut [u8]) 
     fold::letters(page, text, target)
 }
 
+// The day of a date: 0 and the days since 1 January 2000, or 16 and 0.
+#[no_mangle]
+pub extern "C" fn libretto_day(year: u32, month: u32, day: u32) -> Answer
+    ensures { λ r. ⌜ r ≡ dayAnswer year month day ⌝ }
+{
+    calendar::day(year, month, day)
+}
+
+// The date of a day: 0, the year, the month and the day of the month; or 16 and zeros. It passes as a struct of four 32-bit numbers.
+#[no_mangle]
+pub extern "C" fn libretto_date(day: u32) -> CalendarDate
+    ensures { λ r. ⌜ r ≡ dateAnswer day ⌝ }
+{
+    calendar::date(day)
+}
+
 // The field that a number names by its tag, read at a place of a book.
 #[no_mangle]
 pub extern "C" fn libretto_read_field(book: &[u8], place: usize, due: u32) -> PlainField
@@ -118,23 +136,27 @@ pub extern "C" fn libretto_title(book: &[u8], cue: u32) -> Part
     cue_book::title_part(book, cue)
 }
 
-// A cue written at the buffer's start: 0 and its length, or the refusal and 0.
+// A cue written at the buffer's start, without dates where `dated` is 0, and else with these two days: 0 and its length, or the refusal and 0.
 #[no_mangle]
 pub extern "C" fn libretto_write_cue(
     buffer: &mut [u8],
     phrase: &[u8],
     ordinal: u32,
     title: &[u8],
+    dated: u32,
+    first: u32,
+    last: u32,
 ) -> Answer
-    ensures { λ r. ⌜ Written (cueWith (now (phrase .entry)) ordinal (now (title .entry))) (now (buffer .entry)) r (now (buffer .exit)) ⌝ }
+    ensures { λ r. ⌜ Written (cueWith (now (phrase .entry)) ordinal (now (title .entry)) (daysGiven dated first last)) (now (buffer .entry)) r (now (buffer .exit)) ⌝ }
 {
-    cue_writer::write_cue(buffer, phrase, ordinal, title)
+    plain::write_cue(buffer, phrase, ordinal, title, dated, first, last)
 }
 
-// The cues of a book resolved in a text, both folded by a page: 0 and the number of cues, or the refusal and its number; and the letters of the text that were read. It passes as a struct of three 32-bit
-// numbers.
+// The cues of a book that play on a day resolved in a text, both folded by a page: 0 and the number of these cues, or the refusal and its number; and the letters of the text that were read. It passes as a
+// struct of three 32-bit numbers.
 #[no_mangle]
 pub extern "C" fn libretto_resolve(
+    day: u32,
     page: u32,
     book: &[u8],
     text: &[u8],
@@ -142,7 +164,7 @@ pub extern "C" fn libretto_resolve(
     scratch: &mut [u16],
     entries: &mut [u32],
 ) -> Resolving
-    ensures { λ r. ⌜ Resolved page (now (book .entry)) (now (text .entry)) (now (copy .entry)) (now (scratch .entry)) (now (entries .entry)) r (now (copy .exit)) (now (scratch .exit)) (now (entries .exit)) ⌝ }
+    ensures { λ r. ⌜ Resolved day page (now (book .entry)) (now (text .entry)) (now (copy .entry)) (now (scratch .entry)) (now (entries .entry)) r (now (copy .exit)) (now (scratch .exit)) (now (entries .exit)) ⌝ }
 {
-    resolver::resolve(page, book, text, copy, scratch, entries)
+    resolver::resolve(day, page, book, text, copy, scratch, entries)
 }

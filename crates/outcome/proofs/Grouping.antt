@@ -9,13 +9,14 @@ use lib.ListN.{length, take, drop, length-append, length-take, take-append-drop}
 use lib.Seq.{take-all, take-append-le}
 use lib.Dec.{leb}
 use borrow.Author.Tests.{leb-true, le-leb}
+use Rattle.matching.specs.Joined.{those}
 use Rattle.matching.proofs.CaseAnalysis.{by-test, both}
 use Rattle.cue_fields.specs.Field.{fieldLength}
 use Rattle.cue_fields.specs.Form.{formBodies}
-use Rattle.cues.specs.Cue.{Cue}
+use Rattle.cues.specs.Cue.{Cue, playsOn}
 use Rattle.cues.specs.Reading.{cueRefusal, cueOf}
 use Rattle.cues.proofs.Cues.{cue-phrase}
-use Rattle.cue_book.specs.Reading.{cues, readBook}
+use Rattle.cue_book.specs.Reading.{cues, readBook, playing}
 use Rattle.cue_book.proofs.Books.{Left, left-all, left-first}
 use Rattle.outcome.specs.Outcome.{letters, few, short, fitting, fits, groupsAfter, groups, Judged, judgedCount, judgedOf, readsOf}
 use Rattle.outcome.specs.Told.{joined, AllSome, AllFit, AllFull, Grouping, Group, Holds, GroupOf, groupNumber}
@@ -175,10 +176,17 @@ unfolding AllFull groups
 groups-full [] = tt
 groups-full (c ∷ cs) = full-after (c ∷ []) cs
 
--- ---- so the groups of a book's cues are what document 02 says
+-- ---- so the groups of a book's cues that play are what document 02 says
 
-pub book-grouped : (book : List ℕ) {cs : List Cue} → readBook book ≡ cues cs → Grouping cs (groups cs)
-book-grouped book {cs} read = record { consecutive = groups-joined cs; some = groups-some cs; fit = groups-fit cs (left-fit cs (left-all read)); full = groups-full cs }
+those-fit : (day : ℕ) (cs : List Cue) → EachFits cs → EachFits (playing day cs)
+unfolding EachFits those
+those-fit day [] e = tt
+those-fit day (c ∷ cs) e = by-test (λ t. EachFits (cond t (c ∷ playing day cs) (playing day cs))) (playsOn day c) (λ _. (e .0, those-fit day cs (e .1))) (λ _. those-fit day cs (e .1))
+
+pub book-grouped : (day : ℕ) (book : List ℕ) {cs : List Cue} → readBook book ≡ cues cs → Grouping (playing day cs) (groups (playing day cs))
+book-grouped day book {cs} read =
+    let all : List Cue = playing day cs in
+    record { consecutive = groups-joined all; some = groups-some all; fit = groups-fit all (those-fit day cs (left-fit cs (left-all read))); full = groups-full all }
 
 -- ---- the group of a cue
 

@@ -12,43 +12,8 @@ use Rattle.matching.specs.Refusals.{firstMet}
 use Rattle.matching.proofs.CaseAnalysis.{by-test, either, neither}
 use Rattle.cues.specs.Cue.{Cue}
 use Rattle.line_column.specs.LineColumn.{lastOf}
-use Rattle.outcome.specs.Outcome.{Numbered, numberedFrom, cuesOf, isThere, placeOf, above, faultOf, placeBefore, cueFault, Judged, judge}
+use Rattle.outcome.specs.Outcome.{Numbered, cuesOf, isThere, placeOf, above, faultOf, placeBefore, cueFault, Judged, judge}
 use Rattle.outcome.specs.Told.{Rises, AllThere, placesOf, Found, Faulted, Another}
-
--- ---- cues with their numbers
-
-pub numbered-cues : (k : ℕ) (cs : List Cue) → cuesOf (numberedFrom k cs) ≡ cs
-unfolding numberedFrom
-numbered-cues k [] = refl
-numbered-cues k (c ∷ cs) = ap (λ (l : List Cue). c ∷ l) (numbered-cues (suc k) cs)
-
-pub length-numbered : (k : ℕ) (cs : List Cue) → length (numberedFrom k cs) ≡ length cs
-unfolding numberedFrom
-length-numbered k [] = refl
-length-numbered k (c ∷ cs) = ap suc (length-numbered (suc k) cs)
-
--- the cues before a numbered one are as many as its number says
-pub numbered-at : (k : ℕ) (cs : List Cue) (before : List Numbered) (x : Numbered) (later : List Numbered) → numberedFrom k cs ≡ before ++ x ∷ later → x .number ≡ k + length before
-unfolding numberedFrom
-numbered-at k [] [] x later e = absurd (let n : 0 ≡ suc (length later) = ap length e in omega arith)
-numbered-at k [] (b ∷ before) x later e = absurd (let n : 0 ≡ suc (length (before ++ x ∷ later)) = ap length e in omega arith)
-numbered-at k (c ∷ cs) [] x later e = ap (λ (l : List Numbered). first x l .number) (sym e) ∙ omega arith
-  where
-    first : Numbered → List Numbered → Numbered
-    first d [] = d
-    first d (y ∷ ys) = y
-numbered-at k (c ∷ cs) (b ∷ before) x later e = numbered-at (suc k) cs before x later (ap rest e) ∙ omega arith
-  where
-    rest : List Numbered → List Numbered
-    rest [] = []
-    rest (y ∷ ys) = ys
-
-pub numbered-split : (k : ℕ) (cs ds : List Cue) → numberedFrom k (cs ++ ds) ≡ numberedFrom k cs ++ numberedFrom (k + length cs) ds
-unfolding numberedFrom
-numbered-split k [] ds = let same : k ≡ k + 0 = omega arith in ap (λ (i : ℕ). numberedFrom i ds) same
-numbered-split k (c ∷ cs) ds =
-    let same : suc k + length cs ≡ k + suc (length cs) = omega arith in
-    ap (λ (l : List Numbered). record { number = k; cue = c } ∷ l) (numbered-split (suc k) cs ds ∙ ap (λ (i : ℕ). numberedFrom (suc k) cs ++ numberedFrom i ds) same)
 
 -- ---- one place more
 

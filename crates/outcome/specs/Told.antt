@@ -1,13 +1,14 @@
 -- The words in which the outcome's laws are told to a caller, and the resolver's law of a fold.
 use mathlib.Core.Path.{_≡_}
 use Prim.Native.Nat.{ℕ, suc, _+_, _*_, _≤_, _<_}
-use mathlib.Core.Bool.{true, false}
+use mathlib.Core.Bool.{Bool, true, false, _||_}
 use mathlib.Core.List.{List, [], _∷_, _++_, map}
 use lib.ListN.{length, getD, take, drop}
+use lib.Dec.{eqb}
 use Rattle.matching.specs.Occurrences.{Occurs}
 use Rattle.matching.specs.Received.{received}
-use Rattle.cues.specs.Cue.{Cue}
-use Rattle.cue_book.specs.Reading.{Reading, cues, readBook}
+use Rattle.cues.specs.Cue.{Cue, playsOn}
+use Rattle.cue_book.specs.Reading.{Reading, cues, readBook, playing}
 use Rattle.line_column.specs.LineColumn.{lineColumn}
 use Rattle.outcome.specs.Outcome.{Numbered, cuesOf, cueOccurrences, isThere, placeOf, cueFault, Judged, entriesOf, fits, groups, Call, Outcome, outcome}
 
@@ -117,30 +118,31 @@ module _ (f : ℕ → ℕ) (text : List ℕ) where
     pub named : Named c (placeOf f text c)
     pub entered : take 3 (drop (3 * index) entries) ≡ entriesOf text (placeOf f text c ∷ [])
 
-  -- refusal 0: the book reads as cues, the number is how many, every one of them came out, their places rise, and every letter was read once for each of their groups
-  pub record AllOut (book entries : List ℕ) (number reads : ℕ) : Type 0 where
-    pub all : List Cue
-    pub read : readBook book ≡ cues all
-    pub number-is : number ≡ length all
-    pub rises : Rises (placesOf all)
-    pub grouped : Grouping all (groups all)
-    pub reads-are : reads ≡ length text * length (groups all)
-    pub out : (before : List Cue) (c : Cue) (later : List Cue) → all ≡ before ++ c ∷ later → CameOut entries (length before) c
+  -- refusal 0: the book reads as cues, the number is how many play on the day, every one of these came out, their places rise, and every letter was read once for each of their groups
+  pub record AllOut (day : ℕ) (book entries : List ℕ) (number reads : ℕ) : Type 0 where
+    pub whole : List Cue
+    pub read : readBook book ≡ cues whole
+    pub number-is : number ≡ length (playing day whole)
+    pub rises : Rises (placesOf (playing day whole))
+    pub grouped : Grouping (playing day whole) (groups (playing day whole))
+    pub reads-are : reads ≡ length text * length (groups (playing day whole))
+    pub out : (before : List Cue) (c : Cue) (later : List Cue) → playing day whole ≡ before ++ c ∷ later → CameOut entries (length before) c
 
-  -- a cue's fault: the book reads as cues, and the number is the index of one with this fault, which may speak of those before it; every cue before it came out, their places rise, and every letter was
-  -- read once for each group up to its own
-  pub record OneFaulty (Fault : List Cue → Cue → Type 0) (book entries : List ℕ) (number reads : ℕ) : Type 0 where
-    pub earlier : List Cue
+  -- a cue's fault: the book reads as cues, and the number is the index among all of them of one that plays on the day and has this fault, which may speak of the playing ones before it; every one of those
+  -- came out, their places rise, and every letter was read once for each group up to its own
+  pub record OneFaulty (day : ℕ) (Fault : List Cue → Cue → Type 0) (book entries : List ℕ) (number reads : ℕ) : Type 0 where
+    pub before : List Cue
     pub faulty : Cue
     pub after : List Cue
-    pub read : readBook book ≡ cues (earlier ++ faulty ∷ after)
-    pub number-is : number ≡ length earlier
-    pub fault : Fault earlier faulty
-    pub rises : Rises (placesOf earlier)
-    pub grouped : Grouping (earlier ++ faulty ∷ after) (groups (earlier ++ faulty ∷ after))
-    pub group : GroupOf earlier faulty after
+    pub read : readBook book ≡ cues (before ++ faulty ∷ after)
+    pub plays : playsOn day faulty ≡ true
+    pub number-is : number ≡ length before
+    pub fault : Fault (playing day before) faulty
+    pub rises : Rises (placesOf (playing day before))
+    pub grouped : Grouping (playing day before ++ faulty ∷ playing day after) (groups (playing day before ++ faulty ∷ playing day after))
+    pub group : GroupOf (playing day before) faulty (playing day after)
     pub reads-are : reads ≡ length text * groupNumber group
-    pub out : (before : List Cue) (c : Cue) (later : List Cue) → earlier ≡ before ++ c ∷ later → CameOut entries (length before) c
+    pub out : (earlier : List Cue) (c : Cue) (later : List Cue) → playing day before ≡ earlier ++ c ∷ later → CameOut entries (length earlier) c
 
   -- refusal 12: its occurrence does not exist
   abbrev pub Missing : List Cue → Cue → Type 0
@@ -166,11 +168,36 @@ pub record Idle (o : Outcome) : Type 0 where
   pub reads : o .resolution .reads ≡ 0
   pub written : o .resolution .written ≡ []
 
+-- ---- the day (document 02, (viii))
+
+-- two numbers name the same cue of those that play on a day: the one in the whole book, the other among those
+pub record SameCue (day : ℕ) (whole : List Cue) (number number′ : ℕ) : Type 0 where
+  pub before : List Cue
+  pub cue : Cue
+  pub after : List Cue
+  pub split : whole ≡ before ++ cue ∷ after
+  pub plays : playsOn day cue ≡ true
+  pub number-is : number ≡ length before
+  pub number′-is : number′ ≡ length (playing day before)
+
+-- whether a refusal is a cue's, so that its number names that cue
+abbrev pub namesCue : ℕ → Bool
+namesCue refusal = eqb refusal 12 || eqb refusal 15
+
+-- the outcome of a book with these cues is the other one, of the book in which only the playing ones stand, but for the numbers by which 12 and 15 name a cue
+pub record PlayingAlone (day : ℕ) (whole : List Cue) (o o′ : Outcome) : Type 0 where
+  pub works : o .works ≡ o′ .works
+  pub refusal : o .resolution .refusal ≡ o′ .resolution .refusal
+  pub reads : o .resolution .reads ≡ o′ .resolution .reads
+  pub written : o .resolution .written ≡ o′ .resolution .written
+  pub number : namesCue (o .resolution .refusal) ≡ false → o .resolution .number ≡ o′ .resolution .number
+  pub named : namesCue (o .resolution .refusal) ≡ true → SameCue day whole (o .resolution .number) (o′ .resolution .number)
+
 -- ---- the resolver's law (document 02, (iv)), of a fold
 
 -- the call with its text folded beforehand
 abbrev pub beforehand : (ℕ → ℕ) → Call → Call
-beforehand f c = record { page = c .page; text = map f (c .text); copy = c .copy; scratch = c .scratch; entries = c .entries }
+beforehand f c = record { day = c .day; page = c .page; text = map f (c .text); copy = c .copy; scratch = c .scratch; entries = c .entries }
 
 -- two outcomes give the same back, and the same place for each cue, which is the first of its three entries
 pub record SamePlaces (o o′ : Outcome) : Type 0 where
@@ -181,14 +208,16 @@ pub record SamePlaces (o o′ : Outcome) : Type 0 where
   pub written : length (o .resolution .written) ≡ length (o′ .resolution .written)
   pub places : (index : ℕ) → getD (o .resolution .written) (3 * index) 0 ≡ getD (o′ .resolution .written) (3 * index) 0
 
--- each cue comes out at the occurrence of its folded phrase in the folded text, and a text folded beforehand gives the same places; where the fold keeps lines, it gives the same of everything
+-- each cue that plays comes out at the occurrence of its folded phrase in the folded text, the cues that do not play no part in it, and a text folded beforehand gives the same places; where the fold keeps
+-- lines, it gives the same of everything
 pub record Law (f : ℕ → ℕ) : Type 0 where
   pub all-out : (c : Call) (book entries : List ℕ) → length entries ≡ c .entries → let o = outcome f c (readBook book) .resolution in
-      o .refusal ≡ 0 → AllOut f (c .text) book (received entries (o .written)) (o .number) (o .reads)
+      o .refusal ≡ 0 → AllOut f (c .text) (c .day) book (received entries (o .written)) (o .number) (o .reads)
   pub one-missing : (c : Call) (book entries : List ℕ) → length entries ≡ c .entries → let o = outcome f c (readBook book) .resolution in
-      o .refusal ≡ 12 → OneFaulty f (c .text) (Missing f (c .text)) book (received entries (o .written)) (o .number) (o .reads)
+      o .refusal ≡ 12 → OneFaulty f (c .text) (c .day) (Missing f (c .text)) book (received entries (o .written)) (o .number) (o .reads)
   pub one-falling : (c : Call) (book entries : List ℕ) → length entries ≡ c .entries → let o = outcome f c (readBook book) .resolution in
-      o .refusal ≡ 15 → OneFaulty f (c .text) (Falling f (c .text)) book (received entries (o .written)) (o .number) (o .reads)
+      o .refusal ≡ 15 → OneFaulty f (c .text) (c .day) (Falling f (c .text)) book (received entries (o .written)) (o .number) (o .reads)
   pub idle : (c : Call) (book : Reading) → let o = outcome f c book in Another (o .resolution .refusal) → Idle o
+  pub playing-alone : (c : Call) (whole : List Cue) → PlayingAlone (c .day) whole (outcome f c (cues whole)) (outcome f c (cues (playing (c .day) whole)))
   pub same-places : (c : Call) (book : Reading) → SamePlaces (outcome f (beforehand f c) book) (outcome f c book)
   pub same-lines : KeepsLines f → (c : Call) (book : Reading) → outcome f (beforehand f c) book ≡ outcome f c book

@@ -1,6 +1,6 @@
 -- Demand 2 on the resolver, for what a caller has: a resolve that gives 0 has every cue at the occurrence that it names, and their places rise (`all-out`); one that gives 12 or 15 has every cue before the
 -- named one, whose occurrence does not exist (`one-missing`), or does not stand above that of the cue before it (`one-falling`); all say how often the text was read; one that gives any other refusal has
--- read nothing and left all as before (`idle`); and a text folded beforehand gives the same (`folded-before`). Each is the law of any fold (`law` of `outcome`) for the fold of the call's page (`page-law`),
+-- read nothing and left all as before (`idle`); a book in which only the cues that play stand gives the same, but for the numbers that name them (`playing-alone`); and a text folded beforehand gives the same (`folded-before`). Each is the law of any fold (`law` of `outcome`) for the fold of the call's page (`page-law`),
 -- since that one changes nothing the second time and keeps line ends. Assumes nothing.
 use mathlib.Core.Path.{_≡_, refl, sym, ap, subst, _∙_}
 use Prim.Native.Nat.{ℕ}
@@ -10,13 +10,14 @@ use Rattle.matching.specs.Received.{received}
 use Rattle.matching.proofs.Received.{received-none}
 use Rattle.fold.specs.Fold.{foldOn}
 use Rattle.fold.proofs.Fold.{page-twice, page-control}
-use Rattle.cue_book.specs.Reading.{readBook}
+use Rattle.cues.specs.Cue.{Cue}
+use Rattle.cue_book.specs.Reading.{cues, readBook, playing}
 use Rattle.line_column.proofs.Lines.{lines-kept}
-use Rattle.outcome.specs.Outcome.{Call, Outcome}
+use Rattle.outcome.specs.Outcome.{Call, Outcome, outcome}
 use Rattle.outcome.specs.Told.{KeepsLines, AllOut, OneFaulty, Missing, Falling, Another, Law}
 use Rattle.outcome.proofs.Law.{law}
 use Rattle.resolver.specs.declared.Resolving.{Resolving}
-use Rattle.resolver.specs.Resolver.{call, answerOf, Resolved}
+use Rattle.resolver.specs.Resolver.{call, comesTo, answerOf, Resolved, OnlyPlaying}
 
 -- ---- the pages
 
@@ -29,17 +30,17 @@ page-keeps page = lines-kept (foldOn page) (page-control page 10 (omega arith)) 
 
 -- ---- each cue comes out
 
-module _ {page : ℕ} {book text copy scratch entries : List ℕ} {r : Resolving} {copy′ scratch′ entries′ : List ℕ} (made : Resolved page book text copy scratch entries r copy′ scratch′ entries′) where
+module _ {day page : ℕ} {book text copy scratch entries : List ℕ} {r : Resolving} {copy′ scratch′ entries′ : List ℕ} (made : Resolved day page book text copy scratch entries r copy′ scratch′ entries′) where
   abbrev called : Call
-  called = call page text copy scratch entries
+  called = call day page text copy scratch entries
 
-  pub all-out : r .refusal ≡ 0 → AllOut (foldOn page) text book entries′ (r .number) (r .reads)
+  pub all-out : r .refusal ≡ 0 → AllOut (foldOn page) text day book entries′ (r .number) (r .reads)
   all-out z = rw (made .answer, made .entered) (page-law page .all-out called book entries refl (sym (ap (λ (a : Resolving). a .refusal) (made .answer)) ∙ z))
 
-  pub one-missing : r .refusal ≡ 12 → OneFaulty (foldOn page) text (Missing (foldOn page) text) book entries′ (r .number) (r .reads)
+  pub one-missing : r .refusal ≡ 12 → OneFaulty (foldOn page) text day (Missing (foldOn page) text) book entries′ (r .number) (r .reads)
   one-missing z = rw (made .answer, made .entered) (page-law page .one-missing called book entries refl (sym (ap (λ (a : Resolving). a .refusal) (made .answer)) ∙ z))
 
-  pub one-falling : r .refusal ≡ 15 → OneFaulty (foldOn page) text (Falling (foldOn page) text) book entries′ (r .number) (r .reads)
+  pub one-falling : r .refusal ≡ 15 → OneFaulty (foldOn page) text day (Falling (foldOn page) text) book entries′ (r .number) (r .reads)
   one-falling z = rw (made .answer, made .entered) (page-law page .one-falling called book entries refl (sym (ap (λ (a : Resolving). a .refusal) (made .answer)) ∙ z))
 
   -- ---- any other refusal
@@ -49,9 +50,28 @@ module _ {page : ℕ} {book text copy scratch entries : List ℕ} {r : Resolving
       let i = page-law page .idle called (readBook book) (subst Another (ap (λ (a : Resolving). a .refusal) (made .answer)) other) in
       (ap (λ (a : Resolving). a .reads) (made .answer) ∙ i .reads, (made .copied ∙ rw (i .works), (made .emptied ∙ rw (i .works), made .entered ∙ rw (i .written) (received-none entries))))
 
+  -- ---- a book in which only the cues that play stand, in a call otherwise alike, gives the same back but for the number that names a cue, and leaves the lent memory the same
+
+  pub playing-alone : {whole : List Cue} {book₂ : List ℕ} → readBook book ≡ cues whole → readBook book₂ ≡ cues (playing day whole) → {r₂ : Resolving} {copy₂′ scratch₂′ entries₂′ : List ℕ}
+      → Resolved day page book₂ text copy scratch entries r₂ copy₂′ scratch₂′ entries₂′ → OnlyPlaying day whole r r₂ × ((copy′ ≡ copy₂′) × ((scratch′ ≡ scratch₂′) × (entries′ ≡ entries₂′)))
+  playing-alone {whole} {book₂} read read₂ {r₂} alone =
+      let p = page-law page .playing-alone called whole in
+      let o : Outcome = outcome (foldOn page) called (cues whole) in
+      let o₂ : Outcome = outcome (foldOn page) called (cues (playing day whole)) in
+      let is : comesTo book called ≡ o = ap (outcome (foldOn page) called) read in
+      let is₂ : comesTo book₂ called ≡ o₂ = ap (outcome (foldOn page) called) read₂ in
+      let answer : r ≡ answerOf (o .resolution) = made .answer ∙ ap (λ (x : Outcome). answerOf (x .resolution)) is in
+      let answer₂ : r₂ ≡ answerOf (o₂ .resolution) = alone .answer ∙ ap (λ (x : Outcome). answerOf (x .resolution)) is₂ in (
+        rw (answer, answer₂) (record { refusal = p .refusal; reads = p .reads; number = p .number; named = p .named }),
+        (
+          made .copied ∙ rw (is, p .works) (sym (alone .copied ∙ rw is₂)),
+          (made .emptied ∙ rw (is, p .works) (sym (alone .emptied ∙ rw is₂)), made .entered ∙ rw (is, p .written) (sym (alone .entered ∙ rw is₂))),
+        ),
+      )
+
   -- ---- a text folded beforehand, in a call otherwise alike, gives the same back and the same entries
 
-  pub folded-before : {r₂ : Resolving} {copy₂′ scratch₂′ entries₂′ : List ℕ} → Resolved page book (map (foldOn page) text) copy scratch entries r₂ copy₂′ scratch₂′ entries₂′
+  pub folded-before : {r₂ : Resolving} {copy₂′ scratch₂′ entries₂′ : List ℕ} → Resolved day page book (map (foldOn page) text) copy scratch entries r₂ copy₂′ scratch₂′ entries₂′
       → (r₂ ≡ r) × (entries₂′ ≡ entries′)
   folded-before again =
       let same = page-law page .same-lines (page-keeps page) called (readBook book) in (

@@ -1,7 +1,8 @@
--- A group read from the book: what is known cue by cue, and where it ends. Assumes nothing.
+-- A group read from the book: the next cue that plays, what is known cue by cue, and where the group ends. Assumes nothing.
 use mathlib.Core.Path.{_≡_, refl, sym, ap, ap₂, subst, _∙_}
 use Prim.Native.Nat.{ℕ, _+_, _-_, _≤_, _<_}
 use native.Mathlib.Omega.{arith}
+use native.Mathlib.Numerals.{add-one}
 use mathlib.Core.Bool.{true, false, true≢false}
 use mathlib.Core.List.{List, [], _∷_, _++_, map-append, append-assoc}
 use lib.ListN.{length, take, drop, set, length-append, length-drop, length-map}
@@ -10,70 +11,76 @@ use borrow.Author.Tests.{eqb-false}
 use Rattle.matching.specs.Received.{received}
 use Rattle.matching.proofs.Refusals.{Passed, numbersTo, all-passed}
 use Rattle.matching.proofs.Received.{received-none, received-more, received-whole}
-use Rattle.cue_fields.specs.declared.Due.the-variants.{Phrase, Ordinal, Title}
+use Rattle.cue_fields.specs.declared.Due.the-variants.{Ordinal}
 use Rattle.cue_fields.specs.Field.{numberIn, fieldBody, afterField, valueTests, part}
-use Rattle.cue_fields.specs.Form.{formBodies}
-use Rattle.cue_fields.proofs.Form.{form-fine}
-use Rattle.cues.specs.Cue.{Cue}
+use Rattle.cues.specs.declared.Days.{Days}
+use Rattle.cues.specs.Cue.{Cue, daysHold, playsOn}
 use Rattle.cues.specs.Reading.{cueRefusal, cueOf}
-use Rattle.cues.proofs.Cues.{CueAt, phrase-inside}
-use Rattle.cue_book.specs.Reading.{readUpTo}
-use Rattle.cue_book.proofs.Books.{Left, First, left-first}
-use Rattle.outcome.specs.Outcome.{letters, fitting, fits}
+use Rattle.cues.proofs.Cues.{cue-ordinal, ordinal-body, CueAt, phrase-inside}
+use Rattle.cue_book.specs.Reading.{readUpTo, cuesIn}
+use Rattle.cue_book.proofs.Books.{read-end, Left, First, left-first}
+use Rattle.outcome.specs.Outcome.{Numbered, chosenFrom, cuesOf, letters, fitting, fits}
+use Rattle.outcome.proofs.Choosing.{chosen-none, chosen-plays, chosen-not}
 use Rattle.outcome.proofs.Grouping.{fitting-most, fitting-when, fit-when, letters-more}
-use Rattle.resolver.specs.Walking.{restAt, CuesLeft, Remaining, Held, cuesHeld, startsOf, lensOf, ordinalsOf, Gatherable, Gathered}
+use Rattle.resolver.specs.declared.NextCue.{NextCue}
+use Rattle.resolver.specs.Walking.{restAt, chosenAt, CuesLeft, Remaining, Held, cuesHeld, startsOf, lensOf, ordinalsOf, numbersOf, NextRead, Gatherable, Gathered}
 
 -- ---- the cues that are left
 
-pub left-of : {book : List ℕ} {index place : ℕ} {rest : List Cue} → CuesLeft book index place rest → Left book index place rest
-left-of {book} {index} l = record { more = 999 - index; count = omega (arith, l .few); reads = l .reads }
+pub left-of : {day : ℕ} {book : List ℕ} {number place : ℕ} {xs : List Numbered} → CuesLeft day book number place xs → Left book number place (restAt book number place)
+left-of {day} {book} {number} l = record { more = 999 - number; count = omega (arith, l .few); reads = l .reads }
 
-pub cues-left : {book : List ℕ} {index place : ℕ} {rest : List Cue} → Left book index place rest → CuesLeft book index place rest
-cues-left {book} {index} {place} l =
-    let more : 999 - index ≡ l .more = omega (arith, l .count) in
-    record { few = omega (arith, l .count); reads = ap (λ (n : ℕ). readUpTo n index (drop place book)) more ∙ l .reads }
+pub cues-left : {book : List ℕ} {number place : ℕ} {rest : List Cue} (day : ℕ) → Left book number place rest → CuesLeft day book number place (chosenFrom day number rest)
+cues-left {book} {number} {place} day l =
+    let more : 999 - number ≡ l .more = omega (arith, l .count) in
+    let reads = ap (λ (n : ℕ). readUpTo n number (drop place book)) more ∙ l .reads in
+    let is = ap cuesIn reads in
+    record { few = omega (arith, l .count); reads = rw is reads; are = ap (chosenFrom day number) is }
 
 -- ---- a cue, as it stands in the book
 
 -- the first of the cues that are left
-pub record Next (book : List ℕ) (index place : ℕ) (rest : List Cue) : Type 0 where
+pub record Next (book : List ℕ) (number place : ℕ) (rest : List Cue) : Type 0 where
   pub cue : Cue
   pub later : List Cue
   pub is : rest ≡ cue ∷ later
-  pub begun : First book index place cue later
+  pub begun : First book number place cue later
 
-pub next-cue : (rest : List Cue) {book : List ℕ} {index place : ℕ} → 1 ≤ length rest → Left book index place rest → Next book index place rest
+next-cue : (rest : List Cue) {book : List ℕ} {number place : ℕ} → 1 ≤ length rest → Left book number place rest → Next book number place rest
 next-cue [] h l = absurd (omega arith)
 next-cue (c ∷ later) h l = record { cue = c; later = later; is = refl; begun = left-first l }
 
 -- an ordinal is at least 1
 ordinal-some : (rest : List ℕ) → cueRefusal rest ≡ 0 → 1 ≤ cueOf rest .ordinal
-unfolding cueRefusal cueOf formBodies Passed numbersTo
+unfolding Passed numbersTo
 ordinal-some rest e =
     let body : List ℕ = fieldBody (afterField rest) in
-    let o = form-fine Ordinal (Title ∷ []) (afterField rest) (form-fine Phrase (Ordinal ∷ Title ∷ []) rest e .1) .0 in
-    omega (arith, eqb-false (numberIn body) 0 (all-passed 9 (valueTests Ordinal body) refl (o .value) .0))
+    omega (arith, eqb-false (numberIn body) 0 (all-passed 9 (valueTests Ordinal body) refl (cue-ordinal rest e .value) .0), ordinal-body rest)
 
 module _
     {book : List ℕ}
-    {index place phrase phrase-end ordinal title end : ℕ}
+    {number place phrase phrase-end ordinal title title-end end : ℕ}
+    {days : Days}
     {rest : List Cue}
-    (n : Next book index place rest)
-    (c : CueAt book place phrase phrase-end ordinal title end)
+    (n : Next book number place rest)
+    (c : CueAt book place phrase phrase-end ordinal title title-end days end)
   where
-    -- its phrase, its length and its ordinal are those that were read
-    pub phrase-read : part book phrase phrase-end ≡ n .cue .phrase
+    -- its phrase, the phrase's length, its ordinal and its days are those that were read
+    phrase-read : part book phrase phrase-end ≡ n .cue .phrase
     phrase-read = ap (λ (x : Cue). x .phrase) (c .meant ∙ n .begun .cue)
 
-    pub ordinal-read : ordinal ≡ n .cue .ordinal
+    ordinal-read : ordinal ≡ n .cue .ordinal
     ordinal-read = ap (λ (x : Cue). x .ordinal) (c .meant ∙ n .begun .cue)
 
-    pub length-read : phrase-end - phrase ≡ length (n .cue .phrase)
+    days-read : (day : ℕ) → daysHold day days ≡ playsOn day (n .cue)
+    days-read day = ap (λ (x : Cue). playsOn day x) (c .meant ∙ n .begun .cue)
+
+    length-read : phrase-end - phrase ≡ length (n .cue .phrase)
     length-read =
         let i = phrase-inside c in
         sym (length-take-le (phrase-end - phrase) (drop phrase book) (omega (arith, i .inside, i .ordered, length-drop phrase book))) ∙ ap length phrase-read
 
-    pub held-here : Held book
+    held-here : Held book
     held-here =
         let i = phrase-inside c in
         record {
@@ -85,133 +92,236 @@ module _
           named = subst (λ (x : Cue). 1 ≤ x .ordinal) (n .begun .cue) (ordinal-some (drop place book) (c .none));
         }
 
+-- ---- on to the next cue that plays
+
+-- so far none did: those left at a place are those left where it began
+pub record Skips (day : ℕ) (book : List ℕ) (number place index at : ℕ) : Type 0 where
+  pub rest : List Cue
+  pub left : Left book index at rest
+  pub same : chosenAt day book number place ≡ chosenFrom day index rest
+  pub passed : number ≤ index
+
+pub skips-none : {day : ℕ} {book : List ℕ} {number place : ℕ} → Remaining day book number place → Skips day book number place number place
+skips-none {day} {book} {number} {place} r = record { rest = restAt book number place; left = left-of (r .left); same = refl; passed = omega arith }
+
+module _ {day : ℕ} {book : List ℕ} {number place index at : ℕ} (r : Remaining day book number place) (s : Skips day book number place index at) where
+  -- a cue is left
+  rest-some : 1 ≤ length (s .rest)
+  rest-some = some (s .rest) (s .same)
+    where
+      some : (rest : List Cue) → chosenAt day book number place ≡ chosenFrom day index rest → 1 ≤ length rest
+      some [] e = absurd (omega (arith, r .some, ap length (e ∙ chosen-none day index)))
+      some (c ∷ cs) e = omega arith
+
+  pub skips-next : Next book index at (s .rest)
+  skips-next = next-cue (s .rest) rest-some (s .left)
+
+  -- so the book has not ended
+  pub skips-inside : length book ≤ at → ⊥
+  skips-inside h = omega (arith, rest-some, ap (λ (l : List Cue). length l) (sym none))
+    where
+      none : [] ≡ s .rest
+      none = sym (ap cuesIn (read-end (s .left .more) index (drop at book) (omega (arith, h, length-drop at book)))) ∙ ap cuesIn (s .left .reads)
+
+  pub skips-few : index < 999
+  skips-few = omega (arith, skips-next .begun .then refl .count)
+
+  module _ {phrase phrase-end ordinal title title-end end : ℕ} {days : Days} (c : CueAt book at phrase phrase-end ordinal title title-end days end) where
+    -- this one does not play
+    pub skips-more : daysHold day days ≡ false → Skips day book number place (index + 1) end
+    skips-more e =
+        let n = skips-next in
+        record {
+          rest = n .later;
+          left = n .begun .then (c .end-is);
+          same = s .same ∙ ap (chosenFrom day index) (n .is) ∙ chosen-not day index (n .cue) (n .later) (sym (days-read n c day) ∙ e) ∙ ap (λ (k : ℕ). chosenFrom day k (n .later)) (sym (add-one index));
+          passed = omega (arith, s .passed);
+        }
+
+    -- it does
+    pub skips-end : daysHold day days ≡ true
+        → NextRead day book number place (record { number = index; phrase = phrase; «phrase_end» = phrase-end; ordinal = ordinal; end = end })
+    unfolding held-here
+    skips-end e =
+        let n = skips-next in
+        let i = phrase-inside c in
+        record {
+          held = held-here n c;
+          later = chosenFrom day (index + 1) (n .later);
+          split =
+              s .same ∙ ap (chosenFrom day index) (n .is) ∙ chosen-plays day index (n .cue) (n .later) (sym (days-read n c day) ∙ e)
+              ∙ ap (λ (k : ℕ). record { number = index; cue = n .cue } ∷ chosenFrom day k (n .later)) (sym (add-one index));
+          start = refl;
+          stop = omega (arith, length-read n c, i .ordered);
+          short = omega (arith, length-read n c, i .short);
+          ordinal = ordinal-read n c;
+          passed = s .passed;
+          left = cues-left day (n .begun .then (c .end-is));
+        }
+
 -- ---- along the group
 
-pub record Gathers (book : List ℕ) (index place : ℕ) (starts₀ lens₀ ordinals₀ : List ℕ) (count sum end : ℕ) (starts lens ordinals : List ℕ) : Type 0 where
+pub record Gathers (day : ℕ) (book : List ℕ) (number place : ℕ) (starts₀ lens₀ ordinals₀ numbers₀ : List ℕ) (count sum next end : ℕ) (starts lens ordinals numbers : List ℕ) : Type 0 where
+  pub items : List Numbered
   pub held : List (Held book)
-  pub later : List Cue
-  pub split : restAt book index place ≡ cuesHeld held ++ later
-  pub counted : count ≡ length held
-  pub left : Left book (index + count) end later
-  pub summed : sum ≡ letters (cuesHeld held)
+  pub cues : cuesOf items ≡ cuesHeld held
+  pub later : List Numbered
+  pub split : chosenAt day book number place ≡ items ++ later
+  pub counted : count ≡ length items
+  pub passed : number + count ≤ next
+  pub left : CuesLeft day book next end later
+  pub summed : sum ≡ letters (cuesOf items)
   pub few : count ≤ 64
   pub short : sum ≤ 4096
   pub starts-are : starts ≡ received starts₀ (startsOf held)
   pub lens-are : lens ≡ received lens₀ (lensOf held)
   pub ordinals-are : ordinals ≡ received ordinals₀ (ordinalsOf held)
+  pub numbers-are : numbers ≡ received numbers₀ (numbersOf items)
 
-pub gathers-none : {book : List ℕ} {index rest place : ℕ} {starts lens ordinals : List ℕ} → Remaining book index rest place → Gathers book index place starts lens ordinals 0 0 place starts lens ordinals
+pub gathers-none : {day : ℕ} {book : List ℕ} {number place : ℕ} {starts lens ordinals numbers : List ℕ} → Remaining day book number place
+    → Gathers day book number place starts lens ordinals numbers 0 0 number place starts lens ordinals numbers
 unfolding letters
-gathers-none {book} {index} {rest} {place} {starts} {lens} {ordinals} r =
-    let same : index ≡ index + 0 = omega arith in
+gathers-none {day} {book} {number} {place} {starts} {lens} {ordinals} {numbers} r =
     record {
+      items = [];
       held = [];
-      later = restAt book index place;
+      cues = refl;
+      later = chosenAt day book number place;
       split = refl;
       counted = refl;
-      left = subst (λ (i : ℕ). Left book i place (restAt book index place)) same (left-of (r .left));
+      passed = omega arith;
+      left = r .left;
       summed = refl;
       few = omega arith;
       short = omega arith;
       starts-are = sym (received-none starts);
       lens-are = sym (received-none lens);
       ordinals-are = sym (received-none ordinals);
+      numbers-are = sym (received-none numbers);
     }
 
 -- one entry more
 put-more : (list values : List ℕ) (k x : ℕ) → k ≡ length values → set (received list values) k x ≡ received list (values ++ x ∷ [])
 put-more list values k x e = ap (λ (i : ℕ). set (received list values) i x) e ∙ received-more list values x
 
-module _ {book : List ℕ} {index place : ℕ} {starts₀ lens₀ ordinals₀ : List ℕ} {count sum end : ℕ} {starts lens ordinals : List ℕ} (g : Gathers book index place starts₀ lens₀ ordinals₀ count sum end starts lens ordinals) where
-  all-left : length (restAt book index place) ≡ count + length (g .later)
-  all-left = ap length (g .split) ∙ length-append (cuesHeld (g .held)) (g .later) ∙ omega (arith, g .counted, length-map (g .held) (λ (h : Held book). h .cue))
+module _ {day : ℕ} {book : List ℕ} {number place : ℕ} {starts₀ lens₀ ordinals₀ numbers₀ : List ℕ} {count sum next end : ℕ} {starts lens ordinals numbers : List ℕ} (g : Gathers day book number place starts₀ lens₀ ordinals₀ numbers₀ count sum next end starts lens ordinals numbers) where
+  all-left : length (chosenAt day book number place) ≡ count + length (g .later)
+  all-left = ap length (g .split) ∙ length-append (g .items) (g .later) ∙ omega (arith, g .counted)
 
-  -- the next cue
-  pub gathers-cue : count < length (restAt book index place) → Next book (index + count) end (g .later)
-  gathers-cue h = next-cue (g .later) (omega (arith, all-left)) (g .left)
+  -- as many are held
+  held-size : count ≡ length (g .held)
+  held-size =
+      omega
+      (arith, g .counted, ap length (g .cues), length-map (g .items) (λ (x : Numbered). x .cue), length-map (g .held) (λ (h : Held book). h .cue))
+
+  -- a cue is left
+  pub gathers-cue : count < length (chosenAt day book number place) → Remaining day book next end
+  gathers-cue h = record { left = record { few = g .left .few; reads = g .left .reads; are = refl }; some = omega (arith, all-left, ap length (g .left .are)) }
 
   -- where it ends: the arrays' first entries are the group's
-  ended : 1 ≤ count → (1 ≤ length (g .later) → fits (cuesHeld (g .held) ++ take 1 (g .later)) ≡ false) → 64 ≤ length starts₀ → 64 ≤ length lens₀ → 64 ≤ length ordinals₀
-      → Gathered book index place (record { count = count; end = end }) starts lens ordinals
-  ended some closed s l o =
+  ended : 1 ≤ count → (1 ≤ length (cuesOf (g .later)) → fits (cuesOf (g .items) ++ take 1 (cuesOf (g .later))) ≡ false) → 64 ≤ length starts₀ → 64 ≤ length lens₀ → 64 ≤ length ordinals₀ → 64 ≤ length numbers₀
+      → Gathered day book number place (record { count = count; number = next; end = end }) starts lens ordinals numbers
+  ended some closed s l o m =
       let hs : List (Held book) = g .held in
-      let size : length (cuesHeld hs) ≡ count = length-map hs (λ (h : Held book). h .cue) ∙ sym (g .counted) in
+      let size : length (cuesOf (g .items)) ≡ count = length-map (g .items) (λ (x : Numbered). x .cue) ∙ sym (g .counted) in
       record {
         next =
             record {
-              group = cuesHeld hs;
+              group = g .items;
               later = g .later;
               split = g .split;
-              grouped = record { some = omega (arith, size, some); fit = fit-when (cuesHeld hs) (omega (arith, size, g .few)) (omega (arith, g .summed, g .short)); closed = closed };
-              counted = sym size;
-              left = cues-left (g .left);
+              grouped = record { some = omega (arith, size, some); fit = fit-when (cuesOf (g .items)) (omega (arith, size, g .few)) (omega (arith, g .summed, g .short)); closed = closed };
+              counted = g .counted;
+              passed = g .passed;
+              left = g .left;
             };
         held = hs;
-        cues = refl;
-        starts = front starts₀ (startsOf hs) (g .starts-are) (length-map hs (λ (h : Held book). h .start)) s;
-        lens = front lens₀ (lensOf hs) (g .lens-are) (length-map hs (λ (h : Held book). length (h .cue .phrase))) l;
-        ordinals = front ordinals₀ (ordinalsOf hs) (g .ordinals-are) (length-map hs (λ (h : Held book). h .cue .ordinal)) o;
+        cues = g .cues;
+        starts = front starts₀ (startsOf hs) (g .starts-are) (length-map hs (λ (h : Held book). h .start) ∙ sym held-size) s;
+        lens = front lens₀ (lensOf hs) (g .lens-are) (length-map hs (λ (h : Held book). length (h .cue .phrase)) ∙ sym held-size) l;
+        ordinals = front ordinals₀ (ordinalsOf hs) (g .ordinals-are) (length-map hs (λ (h : Held book). h .cue .ordinal) ∙ sym held-size) o;
+        numbers = front numbers₀ (numbersOf (g .items)) (g .numbers-are) (length-map (g .items) (λ (x : Numbered). x .number) ∙ sym (g .counted)) m;
       }
     where
-      front : {list : List ℕ} (list₀ values : List ℕ) → list ≡ received list₀ values → length values ≡ length (g .held) → 64 ≤ length list₀ → take count list ≡ values
-      front {list} list₀ values e size room =
-          let same : count ≡ length values = omega (arith, size, g .counted) in
-          ap₂ (λ (k : ℕ) (l : List ℕ). take k l) same e ∙ received-whole list₀ values (omega (arith, same, g .few, room))
+      front : {list : List ℕ} (list₀ values : List ℕ) → list ≡ received list₀ values → length values ≡ count → 64 ≤ length list₀ → take count list ≡ values
+      front {list} list₀ values e size room = ap₂ (λ (k : ℕ) (l : List ℕ). take k l) (sym size) e ∙ received-whole list₀ values (omega (arith, size, g .few, room))
 
-  module _ {rest : ℕ} (lent : Gatherable book index rest place starts₀ lens₀ ordinals₀) where
+  module _ {rest : ℕ} (lent : Gatherable day book number rest place starts₀ lens₀ ordinals₀ numbers₀) where
     -- no cue is left
-    pub gathered-all : rest ≤ count → Gathered book index place (record { count = count; end = end }) starts lens ordinals
+    pub gathered-all : rest ≤ count → Gathered day book number place (record { count = count; number = next; end = end }) starts lens ordinals numbers
     gathered-all all =
-        ended (omega (arith, all, lent .remaining .some)) (λ h. absurd (omega (arith, all, all-left, lent .remaining .number))) (lent .starts-room) (lent .lens-room) (lent .ordinals-room)
+        ended
+        (omega (arith, all, lent .remaining .some, lent .rest-are))
+        (λ h. absurd (omega (arith, all, all-left, lent .rest-are, length-map (g .later) (λ (x : Numbered). x .cue))))
+        (lent .starts-room)
+        (lent .lens-room)
+        (lent .ordinals-room)
+        (lent .numbers-room)
 
-    module _ {phrase phrase-end ordinal title after : ℕ} (n : Next book (index + count) end (g .later)) (c : CueAt book end phrase phrase-end ordinal title after) where
-      -- the next one does not fit
-      pub gathered-full : fitting (count + 1) (sum + (phrase-end - phrase)) ≡ false → Gathered book index place (record { count = count; end = end }) starts lens ordinals
+    module _ {r : NextCue} (n : NextRead day book next end r) where
+      -- the cue is the first of those left
+      abbrev this : Numbered
+      this = record { number = r .number; cue = n .held .cue }
+
+      first-left : g .later ≡ this ∷ n .later
+      first-left = sym (g .left .are) ∙ n .split
+
+      len-is : r .«phrase_end» - r .phrase ≡ length (n .held .cue .phrase)
+      len-is = omega (arith, n .stop)
+
+      -- it does not fit
+      pub gathered-full : fitting (count + 1) (sum + (r .«phrase_end» - r .phrase)) ≡ false → Gathered day book number place (record { count = count; number = next; end = end }) starts lens ordinals numbers
       unfolding letters
       gathered-full full =
-          let hs : List (Held book) = g .held in
-          let group : List Cue = cuesHeld hs ++ take 1 (g .later) in
-          let first : take 1 (g .later) ≡ n .cue ∷ [] = ap (take 1) (n .is) in
-          let cues : count + 1 ≡ length group = omega (arith, length-append (cuesHeld hs) (take 1 (g .later)), g .counted, length-map hs (λ (x : Held book). x .cue), ap length first) in
-          let bytes : sum + (phrase-end - phrase) ≡ letters group = omega (arith, letters-more (cuesHeld hs) (take 1 (g .later)), g .summed, length-read n c, ap letters first) in
-          ended (some hs (g .summed) (g .counted)) (λ _. ap₂ fitting (sym cues) (sym bytes) ∙ full) (lent .starts-room) (lent .lens-room) (lent .ordinals-room)
+          let group : List Cue = cuesOf (g .items) ++ take 1 (cuesOf (g .later)) in
+          let first : take 1 (cuesOf (g .later)) ≡ n .held .cue ∷ [] = ap (λ (l : List Numbered). take 1 (cuesOf l)) first-left in
+          let cues : count + 1 ≡ length group = omega (arith, length-append (cuesOf (g .items)) (take 1 (cuesOf (g .later))), g .counted, length-map (g .items) (λ (x : Numbered). x .cue), ap length first) in
+          let bytes : sum + (r .«phrase_end» - r .phrase) ≡ letters group = omega (arith, letters-more (cuesOf (g .items)) (take 1 (cuesOf (g .later))), g .summed, len-is, ap letters first) in
+          ended (some (g .items) (g .summed) (g .counted)) (λ _. ap₂ fitting (sym cues) (sym bytes) ∙ full) (lent .starts-room) (lent .lens-room) (lent .ordinals-room) (lent .numbers-room)
         where
           -- one cue by itself does
-          some : (hs : List (Held book)) → sum ≡ letters (cuesHeld hs) → count ≡ length hs → 1 ≤ count
-          some [] e k = absurd (true≢false (sym (fit-one) ∙ full))
+          some : (xs : List Numbered) → sum ≡ letters (cuesOf xs) → count ≡ length xs → 1 ≤ count
+          some [] e k = absurd (true≢false (sym fit-one ∙ full))
             where
-              fit-one : fitting (count + 1) (sum + (phrase-end - phrase)) ≡ true
-              fit-one = fitting-when (count + 1) (sum + (phrase-end - phrase)) (omega (arith, k)) (omega (arith, e, phrase-inside c .short))
-          some (h ∷ hs) e k = omega (arith, k)
+              fit-one : fitting (count + 1) (sum + (r .«phrase_end» - r .phrase)) ≡ true
+              fit-one = fitting-when (count + 1) (sum + (r .«phrase_end» - r .phrase)) (omega (arith, k)) (omega (arith, e, len-is, n .short))
+          some (x ∷ xs) e k = omega (arith, k)
 
       -- it is gathered
-      pub gathers-next : {sum′ : ℕ} → sum′ ≡ sum + (phrase-end - phrase) → fitting (count + 1) sum′ ≡ true
-          → Gathers book index place starts₀ lens₀ ordinals₀ (count + 1) sum′ after (set starts count phrase) (set lens count (phrase-end - phrase)) (set ordinals count ordinal)
-      unfolding letters held-here
+      pub gathers-next : {sum′ : ℕ} → sum′ ≡ sum + (r .«phrase_end» - r .phrase) → fitting (count + 1) sum′ ≡ true
+          → Gathers day book number place starts₀ lens₀ ordinals₀ numbers₀ (count + 1) sum′ (r .number + 1) (r .end) (set starts count (r .phrase)) (set lens count (r .«phrase_end» - r .phrase)) (set ordinals count (r .ordinal)) (set numbers count (r .number))
+      unfolding letters
       gathers-next {sum′} e h =
-          let this = held-here n c in
+          let xs : List Numbered = g .items in
           let hs : List (Held book) = g .held in
-          let more = map-append (λ (x : Held book). x .cue) hs (this ∷ []) in
+          let more = map-append (λ (x : Numbered). x .cue) xs (this ∷ []) in
+          let moreh = map-append (λ (x : Held book). x .cue) hs (n .held ∷ []) in
           record {
-            held = hs ++ this ∷ [];
+            items = xs ++ this ∷ [];
+            held = hs ++ n .held ∷ [];
+            cues = more ∙ ap (λ (l : List Cue). l ++ n .held .cue ∷ []) (g .cues) ∙ sym moreh;
             later = n .later;
-            split =
-                g .split ∙ ap (λ (l : List Cue). cuesHeld hs ++ l) (n .is) ∙ sym (append-assoc (cuesHeld hs) (n .cue ∷ []) (n .later))
-                ∙ ap (λ (l : List Cue). l ++ n .later) (sym more);
-            counted = omega (arith, g .counted, length-append hs (this ∷ []));
-            left = subst (λ (i : ℕ). Left book i after (n .later)) (omega arith) (n .begun .then (c .end-is));
-            summed = omega (arith, e, g .summed, length-read n c, ap letters more, letters-more (cuesHeld hs) (n .cue ∷ []));
+            split = g .split ∙ ap (λ (l : List Numbered). xs ++ l) first-left ∙ sym (append-assoc xs (this ∷ []) (n .later));
+            counted = omega (arith, g .counted, length-append xs (this ∷ []));
+            passed = omega (arith, g .passed, n .passed);
+            left = n .left;
+            summed = omega (arith, e, g .summed, len-is, ap letters more, letters-more (cuesOf xs) (n .held .cue ∷ []));
             few = fitting-most (count + 1) sum′ h .0;
             short = fitting-most (count + 1) sum′ h .1;
             starts-are =
-                ap (λ (l : List ℕ). set l count phrase) (g .starts-are) ∙ put-more starts₀ (startsOf hs) count phrase (g .counted ∙ sym (length-map hs (λ (x : Held book). x .start)))
-                ∙ ap (received starts₀) (sym (map-append (λ (x : Held book). x .start) hs (this ∷ [])));
+                ap₂ (λ (l : List ℕ) (x : ℕ). set l count x) (g .starts-are) (n .start)
+                ∙ put-more starts₀ (startsOf hs) count (n .held .start) (held-size ∙ sym (length-map hs (λ (x : Held book). x .start)))
+                ∙ ap (received starts₀) (sym (map-append (λ (x : Held book). x .start) hs (n .held ∷ [])));
             lens-are =
-                ap₂ (λ (l : List ℕ) (x : ℕ). set l count x) (g .lens-are) (length-read n c)
-                ∙ put-more lens₀ (lensOf hs) count (length (n .cue .phrase)) (g .counted ∙ sym (length-map hs (λ (x : Held book). length (x .cue .phrase))))
-                ∙ ap (received lens₀) (sym (map-append (λ (x : Held book). length (x .cue .phrase)) hs (this ∷ [])));
+                ap₂ (λ (l : List ℕ) (x : ℕ). set l count x) (g .lens-are) len-is
+                ∙ put-more lens₀ (lensOf hs) count (length (n .held .cue .phrase)) (held-size ∙ sym (length-map hs (λ (x : Held book). length (x .cue .phrase))))
+                ∙ ap (received lens₀) (sym (map-append (λ (x : Held book). length (x .cue .phrase)) hs (n .held ∷ [])));
             ordinals-are =
-                ap₂ (λ (l : List ℕ) (x : ℕ). set l count x) (g .ordinals-are) (ordinal-read n c)
-                ∙ put-more ordinals₀ (ordinalsOf hs) count (n .cue .ordinal) (g .counted ∙ sym (length-map hs (λ (x : Held book). x .cue .ordinal)))
-                ∙ ap (received ordinals₀) (sym (map-append (λ (x : Held book). x .cue .ordinal) hs (this ∷ [])));
+                ap₂ (λ (l : List ℕ) (x : ℕ). set l count x) (g .ordinals-are) (n .ordinal)
+                ∙ put-more ordinals₀ (ordinalsOf hs) count (n .held .cue .ordinal) (held-size ∙ sym (length-map hs (λ (x : Held book). x .cue .ordinal)))
+                ∙ ap (received ordinals₀) (sym (map-append (λ (x : Held book). x .cue .ordinal) hs (n .held ∷ [])));
+            numbers-are =
+                ap (λ (l : List ℕ). set l count (r .number)) (g .numbers-are)
+                ∙ put-more numbers₀ (numbersOf xs) count (r .number) (g .counted ∙ sym (length-map xs (λ (x : Numbered). x .number)))
+                ∙ ap (received numbers₀) (sym (map-append (λ (x : Numbered). x .number) xs (this ∷ [])));
           }

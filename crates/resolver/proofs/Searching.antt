@@ -17,11 +17,11 @@ use Rattle.automaton.specs.declared.Walked.{Walked}
 use Rattle.automaton.specs.Locate.{Accepted, Located, Answered}
 use Rattle.automaton.proofs.Locating as locating
 use Rattle.cues.specs.Cue.{Cue}
-use Rattle.outcome.specs.Outcome.{letters, Numbered, numberedFrom, cueOccurrences, isThere, placeOf, faultOf, placeBefore, cueFault, judge}
+use Rattle.outcome.specs.Outcome.{letters, Numbered, cuesOf, cueOccurrences, isThere, placeOf, faultOf, placeBefore, cueFault, judge}
 use Rattle.outcome.proofs.Judging.{none-there, last-more, judge-on, judge-stop, judge-end}
 use Rattle.outcome.proofs.Grouping.{fit-few, fit-short}
 use Rattle.resolver.specs.declared.CuesRead.{CuesRead}
-use Rattle.resolver.specs.Walking.{Held, cuesHeld, startsOf, lensOf, ordinalsOf, Gathered, Searchable, Told, Searched, Passing, passing}
+use Rattle.resolver.specs.Walking.{Held, cuesHeld, startsOf, lensOf, ordinalsOf, numbersOf, Gathered, Searchable, Told, Searched, Passing, passing}
 
 -- ---- the held cues, as the automaton takes them
 
@@ -63,15 +63,22 @@ at-seam : {A : Type 0} (g : Cue → A) (before : List Cue) (c : Cue) (later : Li
 at-seam g [] c later d = refl
 at-seam g (b ∷ before) c later d = at-seam g before c later d
 
-module _ {page : ℕ} {book : List ℕ} {index rest place : ℕ} {copy scratch left₀ places₀ : List ℕ} (lent : Searchable page book index rest place copy scratch left₀ places₀) {r : CuesRead} {starts lens left : List ℕ} (g : Gathered book index place r starts lens left) where
+module _ {day page : ℕ} {book : List ℕ} {number rest place : ℕ} {copy scratch left₀ places₀ numbers₀ : List ℕ} (lent : Searchable day page book number rest place copy scratch left₀ places₀ numbers₀) {r : CuesRead} {starts lens left numbers : List ℕ} (g : Gathered day book number place r starts lens left numbers) where
   abbrev hs : List (Held book)
   hs = g .held
 
+  -- the cues of the group
+  abbrev group : List Cue
+  group = cuesOf (g .next .group)
+
+  group-size : r .count ≡ length group
+  group-size = g .next .counted ∙ sym (length-map (g .next .group) (λ (x : Numbered). x .cue))
+
   size-held : r .count ≡ length hs
-  size-held = g .next .counted ∙ ap length (g .cues) ∙ length-map hs (λ (h : Held book). h .cue)
+  size-held = group-size ∙ ap length (g .cues) ∙ length-map hs (λ (h : Held book). h .cue)
 
   pub few-held : r .count ≤ 64
-  few-held = omega (arith, g .next .counted, fit-few (g .next .group) (g .next .grouped .fit))
+  few-held = omega (arith, group-size, fit-few group (g .next .grouped .fit))
 
   -- the automaton takes them
   accepted : {places : List ℕ} → length places ≡ r .count → Accepted page book (startsOf hs) (lensOf hs) copy scratch (ordinalsOf hs) places
@@ -80,16 +87,16 @@ module _ {page : ℕ} {book : List ℕ} {index rest place : ℕ} {copy scratch l
       let l = length-map hs (λ (h : Held book). length (h .cue .phrase)) in
       let o = length-map hs (λ (h : Held book). h .cue .ordinal) in
       let n = size-held in
-      let most : phrases.letters (phrasesIn (foldOn page) book (startsOf hs) (lensOf hs)) ≡ letters (g .next .group) =
+      let most : phrases.letters (phrasesIn (foldOn page) book (startsOf hs) (lensOf hs)) ≡ letters group =
       ap phrases.letters (phrases-held (foldOn page) hs) ∙ letters-folded (foldOn page) (cuesHeld hs) ∙ ap letters (sym (g .cues)) in
       record {
         known = lent .known;
-        some = omega (arith, s, n, g .next .counted, g .next .grouped .some);
+        some = omega (arith, s, n, group-size, g .next .grouped .some);
         few = omega (arith, s, n, few-held);
         pairs = s ∙ sym l;
         inside = λ k h. inside-held hs k (omega (arith, s, h));
         letter = λ k h. letter-held hs k (omega (arith, s, h));
-        most = omega (arith, most, fit-short (g .next .group) (g .next .grouped .fit));
+        most = omega (arith, most, fit-short group (g .next .grouped .fit));
         lefts = o ∙ sym s;
         places = omega (arith, long, s, n);
         room = lent .room;
@@ -116,7 +123,7 @@ module _ {page : ℕ} {book : List ℕ} {index rest place : ℕ} {copy scratch l
     places-size = locating.place-long located ∙ long
 
     -- and what it left tells of each cue
-    told-held : (text : List ℕ) → copy ≡ map (foldOn page) text → Told (foldOn page) text left′ places′ (g .next .group)
+    told-held : (text : List ℕ) → copy ≡ map (foldOn page) text → Told (foldOn page) text left′ places′ group
     unfolding cueOccurrences
     told-held text e =
         record {
@@ -135,7 +142,7 @@ module _ {page : ℕ} {book : List ℕ} {index rest place : ℕ} {copy scratch l
               ap₂ (λ (l : List ℕ) (o : ℕ). hasNth l o) (sym (p .1 .0)) (sym (p .1 .1)) ∙ locating.missing located k few more;
         }
       where
-        at : (before : List Cue) (c : Cue) (later : List Cue) → g .next .group ≡ before ++ c ∷ later
+        at : (before : List Cue) (c : Cue) (later : List Cue) → group ≡ before ++ c ∷ later
             → (length before < length hs) × ((occurrences (getD (phrasesIn (foldOn page) book (startsOf hs) (lensOf hs)) (length before) []) copy ≡ cueOccurrences (foldOn page) text c) × (getD (ordinalsOf hs) (length before) 0 ≡ c .ordinal))
         at before c later split =
             let is : cuesHeld hs ≡ before ++ c ∷ later = sym (g .cues) ∙ split in (
@@ -149,7 +156,7 @@ module _ {page : ℕ} {book : List ℕ} {index rest place : ℕ} {copy scratch l
             )
 
     -- it stands at the front of the arrays
-    pub searched : (more more₂ : List ℕ) → Searched page book index place copy scratch (record { count = r .count; end = r .end; reads = w .reads }) scratch′ (left′ ++ more) (places′ ++ more₂)
+    pub searched : (more more₂ : List ℕ) → Searched day page book number place copy scratch (record { count = r .count; number = r .number; end = r .end; reads = w .reads }) scratch′ (left′ ++ more) (places′ ++ more₂) numbers
     searched more more₂ =
         let front = held left-size more in
         let front₂ = held places-size more₂ in
@@ -160,8 +167,9 @@ module _ {page : ℕ} {book : List ℕ} {index rest place : ℕ} {copy scratch l
           lefts = ap length front ∙ left-size;
           places = ap length front₂ ∙ places-size;
           told = λ text e.
-              subst (λ (l : List ℕ). Told (foldOn page) text l (take (r .count) (places′ ++ more₂)) (g .next .group)) (sym front)
-              (subst (λ (l : List ℕ). Told (foldOn page) text left′ l (g .next .group)) (sym front₂) (told-held text e));
+              subst (λ (l : List ℕ). Told (foldOn page) text l (take (r .count) (places′ ++ more₂)) group) (sym front)
+              (subst (λ (l : List ℕ). Told (foldOn page) text left′ l group) (sym front₂) (told-held text e));
+          numbers = g .numbers;
         }
       where
         held : {l : List ℕ} → length l ≡ r .count → (m : List ℕ) → take (r .count) (l ++ m) ≡ l
@@ -192,49 +200,50 @@ module _ (f : ℕ → ℕ) (text : List ℕ) where
         missing = λ before d later split. t .missing (c ∷ before) d later (ap (λ (m : List Cue). c ∷ m) split);
       }
 
-  pub judged : (n last : ℕ) (found left places : List ℕ) (cs : List Cue) → n ≡ length found → last ≡ placeBefore found → length left ≡ length cs → length places ≡ length cs → Told f text left places cs
-      → let s = passing n last left places in judge f text found (numberedFrom n cs) ≡ record { refusal = s .refusal; number = n + length (s .places); places = found ++ s .places }
-  unfolding passing numberedFrom
+  pub judged : (n last : ℕ) (found left places : List ℕ) (xs : List Numbered) → n ≡ length found → last ≡ placeBefore found → length left ≡ length xs → length places ≡ length xs → Told f text left places (cuesOf xs)
+      → let s = passing n last left places in
+      judge f text found xs ≡ record { refusal = s .refusal; number = cond (eqb (s .refusal) 0) (n + length (s .places)) (getD (numbersOf xs) (length (s .places)) 0); places = found ++ s .places }
+  unfolding passing
   judged n last found [] places [] en el e k t = judge-end f text found ∙ ap₂ (λ (i : ℕ) (l : List ℕ). record { refusal = 0; number = i; places = l }) (omega (arith, en)) (sym (append-nil found))
-  judged n last found [] places (c ∷ cs) en el e k t = absurd (omega arith)
+  judged n last found [] places (x ∷ xs) en el e k t = absurd (omega arith)
   judged n last found (l ∷ left) places [] en el e k t = absurd (omega arith)
-  judged n last found (l ∷ left) [] (c ∷ cs) en el e k t = absurd (omega arith)
-  judged n last found (l ∷ left) (p ∷ places) (c ∷ cs) en el e k t =
-      let x : Numbered = record { number = n; cue = c } in
-      let xs : List Numbered = numberedFrom (suc n) cs in
+  judged n last found (l ∷ left) [] (x ∷ xs) en el e k t = absurd (omega arith)
+  judged n last found (l ∷ left) (p ∷ places) (x ∷ xs) en el e k t =
+      let c : Cue = x .cue in
+      let cs : List Cue = cuesOf xs in
       let fault : ℕ = faultOf (eqb l 0) n last p in
       let rest : Passing = passing (suc n) p left places in
       let is = fault-at found c en el in
       by-test
       (λ b. let s : Passing = cond b (record { refusal = rest .refusal; places = p ∷ rest .places }) (record { refusal = fault; places = [] }) in
-      judge f text found (x ∷ xs) ≡ record { refusal = s .refusal; number = n + length (s .places); places = found ++ s .places })
+      judge f text found (x ∷ xs) ≡ record { refusal = s .refusal; number = cond (eqb (s .refusal) 0) (n + length (s .places)) (getD (numbersOf (x ∷ xs)) (length (s .places)) 0); places = found ++ s .places })
       (eqb fault 0)
       (λ b.
       let z = eqb-true fault 0 b in
       let none : l ≡ 0 = nothing-left z in
       let h = t .found [] c cs refl none in
-      let again = judged (suc n) p (found ++ p ∷ []) left places cs (omega (arith, en, length-append found (p ∷ []))) (sym (last-more found p)) (omega arith) (omega arith) (told-others t) in
+      let again = judged (suc n) p (found ++ p ∷ []) left places xs (omega (arith, en, length-append found (p ∷ []))) (sym (last-more found p)) (omega arith) (omega arith) (told-others t) in
+      let count : suc n + length (rest .places) ≡ n + suc (length (rest .places)) = omega arith in
       judge-on f text found x xs (is ∙ sym (told-there n last c none h) ∙ z)
       ∙ ap (λ (q : ℕ). judge f text (found ++ q ∷ []) xs) (sym (h .1))
       ∙ again
-      ∙ ap₂ (λ (i : ℕ) (ps : List ℕ). record { refusal = rest .refusal; number = i; places = ps }) (omega arith) (append-assoc found (p ∷ []) (rest .places)))
+      ∙ ap₂ (λ (i : ℕ) (ps : List ℕ). record { refusal = rest .refusal; number = cond (eqb (rest .refusal) 0) i (getD (numbersOf xs) (length (rest .places)) 0); places = ps }) count (append-assoc found (p ∷ []) (rest .places)))
       (λ b.
       let some = eqb-false fault 0 b in
       let same : cueFault f text found c ≡ fault = is ∙ sym faults in
       judge-stop f text found x xs (λ z. some (sym same ∙ z))
-      ∙ ap (λ (i : ℕ). record { refusal = i; number = n; places = found }) same
-      ∙ ap₂ (λ (i : ℕ) (ps : List ℕ). record { refusal = fault; number = i; places = ps }) (omega arith) (sym (append-nil found)))
+      ∙ rw b (ap₂ (λ (i : ℕ) (ps : List ℕ). record { refusal = i; number = x .number; places = ps }) same (sym (append-nil found))))
     where
       nothing-left : faultOf (eqb l 0) n last p ≡ 0 → l ≡ 0
       nothing-left z =
           by-test (λ _. l ≡ 0) (eqb l 0) (eqb-true l 0)
-          (λ b. let some = eqb-false l 0 b in absurd (omega (arith, told-missing n last p c some (t .missing [] c cs refl (omega (arith, some))) .0)))
+          (λ b. let some = eqb-false l 0 b in absurd (omega (arith, told-missing n last p (x .cue) some (t .missing [] (x .cue) (cuesOf xs) refl (omega (arith, some))) .0)))
 
-      faults : faultOf (eqb l 0) n last p ≡ faultOf (isThere f text c) n last (placeOf f text c)
+      faults : faultOf (eqb l 0) n last p ≡ faultOf (isThere f text (x .cue)) n last (placeOf f text (x .cue))
       faults =
-          by-test (λ _. faultOf (eqb l 0) n last p ≡ faultOf (isThere f text c) n last (placeOf f text c)) (eqb l 0)
-          (λ b. let none = eqb-true l 0 b in told-there n last c none (t .found [] c cs refl none))
+          by-test (λ _. faultOf (eqb l 0) n last p ≡ faultOf (isThere f text (x .cue)) n last (placeOf f text (x .cue))) (eqb l 0)
+          (λ b. let none = eqb-true l 0 b in told-there n last (x .cue) none (t .found [] (x .cue) (cuesOf xs) refl none))
           (λ b.
           let some = eqb-false l 0 b in
-          let m = told-missing n last p c some (t .missing [] c cs refl (omega (arith, some))) in
+          let m = told-missing n last p (x .cue) some (t .missing [] (x .cue) (cuesOf xs) refl (omega (arith, some))) in
           m .0 ∙ sym (m .1))

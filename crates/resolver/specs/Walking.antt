@@ -8,13 +8,14 @@ use lib.Dec.{eqb}
 use Rattle.matching.specs.Received.{received, receivedFrom}
 use Rattle.fold.specs.Fold.{isPage, foldOn}
 use Rattle.cues.specs.Cue.{Cue}
-use Rattle.cue_book.specs.Reading.{cues, readUpTo, readBook, cuesIn}
+use Rattle.cue_book.specs.Reading.{cues, readUpTo, readBook, playing, cuesIn}
 use Rattle.line_column.specs.declared.LineColumn.{LineColumn}
 use Rattle.line_column.specs.LineColumn.{lastOf, lineColumn}
-use Rattle.outcome.specs.Outcome.{numberedFrom, chosen, isThere, placeOf, faultOf, placeBefore, judge, entriesOf, Resolution, resolution}
+use Rattle.outcome.specs.Outcome.{Numbered, chosenFrom, chosen, cuesOf, isThere, placeOf, faultOf, placeBefore, judge, entriesOf, Resolution, resolution}
 use Rattle.outcome.specs.Told.{Group}
 use Rattle.resolver.specs.declared.Resolving.{Resolving}
 use Rattle.resolver.specs.Resolver.{answerOf}
+use Rattle.resolver.specs.declared.NextCue.{NextCue}
 use Rattle.resolver.specs.declared.CuesRead.{CuesRead}
 use Rattle.resolver.specs.declared.GroupFound.{GroupFound}
 use Rattle.resolver.specs.declared.EntriesPut.{EntriesPut}
@@ -22,29 +23,33 @@ use Rattle.resolver.specs.declared.GroupResolved.{GroupResolved}
 
 -- ---- where a walk stands in the book
 
--- the cues that are left at a place, the first with that index
+-- the cues that are left at a place, where the cue with that index in the book begins; and those of them that play on a day
 abbrev pub restAt : List ℕ → ℕ → ℕ → List Cue
-restAt book index place = cuesIn (readUpTo (999 - index) index (drop place book))
+restAt book number place = cuesIn (readUpTo (999 - number) number (drop place book))
 
--- the book was read, and at a place these are left
-pub record CuesLeft (book : List ℕ) (index place : ℕ) (rest : List Cue) : Type 0 where
-  pub few : index ≤ 999
-  pub reads : readUpTo (999 - index) index (drop place book) ≡ cues rest
+abbrev pub chosenAt : ℕ → List ℕ → ℕ → ℕ → List Numbered
+chosenAt day book number place = chosenFrom day number (restAt book number place)
 
--- so many, at least one
-pub record Remaining (book : List ℕ) (index rest place : ℕ) : Type 0 where
-  pub left : CuesLeft book index place (restAt book index place)
-  pub number : rest ≡ length (restAt book index place)
-  pub some : 1 ≤ rest
+-- the book was read, and of the cues left at a place these play
+pub record CuesLeft (day : ℕ) (book : List ℕ) (number place : ℕ) (xs : List Numbered) : Type 0 where
+  pub few : number ≤ 999
+  pub reads : readUpTo (999 - number) number (drop place book) ≡ cues (restAt book number place)
+  pub are : chosenAt day book number place ≡ xs
 
--- the next group: so many cues, and the place after them
-pub record NextGroup (book : List ℕ) (index place count end : ℕ) : Type 0 where
-  pub group : List Cue
-  pub later : List Cue
-  pub split : restAt book index place ≡ group ++ later
-  pub grouped : Group group later
+-- at least one does
+pub record Remaining (day : ℕ) (book : List ℕ) (number place : ℕ) : Type 0 where
+  pub left : CuesLeft day book number place (chosenAt day book number place)
+  pub some : 1 ≤ length (chosenAt day book number place)
+
+-- the next group: so many cues, the index of the cue after them, and its place
+pub record NextGroup (day : ℕ) (book : List ℕ) (number place count next end : ℕ) : Type 0 where
+  pub group : List Numbered
+  pub later : List Numbered
+  pub split : chosenAt day book number place ≡ group ++ later
+  pub grouped : Group (cuesOf group) (cuesOf later)
   pub counted : count ≡ length group
-  pub left : CuesLeft book (index + count) end later
+  pub passed : number + count ≤ next
+  pub left : CuesLeft day book next end later
 
 -- ---- the next group's cues, as they stand in the book
 
@@ -69,31 +74,52 @@ module _ {book : List ℕ} where
   abbrev pub ordinalsOf : List (Held book) → List ℕ
   ordinalsOf hs = map (λ h. h .cue .ordinal) hs
 
--- three arrays with room for 64
-pub record Gatherable (book : List ℕ) (index rest place : ℕ) (starts lens ordinals : List ℕ) : Type 0 where
-  pub remaining : Remaining book index rest place
+-- the indices in the book of chosen cues
+abbrev pub numbersOf : List Numbered → List ℕ
+numbersOf xs = map (λ x. x .number) xs
+
+-- the next cue that plays, held, and those after it
+pub record NextRead (day : ℕ) (book : List ℕ) (number place : ℕ) (r : NextCue) : Type 0 where
+  pub held : Held book
+  pub later : List Numbered
+  pub split : chosenAt day book number place ≡ record { number = r .number; cue = held .cue } ∷ later
+  pub start : r .phrase ≡ held .start
+  pub stop : r .«phrase_end» ≡ r .phrase + length (held .cue .phrase)
+  pub short : length (held .cue .phrase) ≤ 1024
+  pub ordinal : r .ordinal ≡ held .cue .ordinal
+  pub passed : number ≤ r .number
+  pub left : CuesLeft day book (r .number + 1) (r .end) later
+
+-- so many cues that play are left; four arrays with room for 64
+pub record Gatherable (day : ℕ) (book : List ℕ) (number rest place : ℕ) (starts lens ordinals numbers : List ℕ) : Type 0 where
+  pub remaining : Remaining day book number place
+  pub rest-are : rest ≡ length (chosenAt day book number place)
   pub starts-room : 64 ≤ length starts
   pub lens-room : 64 ≤ length lens
   pub ordinals-room : 64 ≤ length ordinals
+  pub numbers-room : 64 ≤ length numbers
 
 -- their first entries are the group's
-pub record Gathered (book : List ℕ) (index place : ℕ) (r : CuesRead) (starts′ lens′ ordinals′ : List ℕ) : Type 0 where
-  pub next : NextGroup book index place (r .count) (r .end)
+pub record Gathered (day : ℕ) (book : List ℕ) (number place : ℕ) (r : CuesRead) (starts′ lens′ ordinals′ numbers′ : List ℕ) : Type 0 where
+  pub next : NextGroup day book number place (r .count) (r .number) (r .end)
   pub held : List (Held book)
-  pub cues : next .group ≡ cuesHeld held
+  pub cues : cuesOf (next .group) ≡ cuesHeld held
   pub starts : take (r .count) starts′ ≡ startsOf held
   pub lens : take (r .count) lens′ ≡ lensOf held
   pub ordinals : take (r .count) ordinals′ ≡ ordinalsOf held
+  pub numbers : take (r .count) numbers′ ≡ numbersOf (next .group)
 
 -- ---- the walk of a group
 
-pub record Searchable (page : ℕ) (book : List ℕ) (index rest place : ℕ) (copy scratch left places : List ℕ) : Type 0 where
-  pub remaining : Remaining book index rest place
+pub record Searchable (day page : ℕ) (book : List ℕ) (number rest place : ℕ) (copy scratch left places numbers : List ℕ) : Type 0 where
+  pub remaining : Remaining day book number place
+  pub rest-are : rest ≡ length (chosenAt day book number place)
   pub known : isPage page ≡ true
   pub small : length copy ≤ 32768
   pub room : 65535 ≤ length scratch
   pub left-room : 64 ≤ length left
   pub places-room : 64 ≤ length places
+  pub numbers-room : 64 ≤ length numbers
 
 -- of each cue: nothing is left, and its occurrence in the folded text exists and stands at that place; or something is, and it does not exist
 pub record Told (f : ℕ → ℕ) (text left places : List ℕ) (group : List Cue) : Type 0 where
@@ -101,13 +127,14 @@ pub record Told (f : ℕ → ℕ) (text left places : List ℕ) (group : List Cu
   pub missing : (before : List Cue) (c : Cue) (later : List Cue) → group ≡ before ++ c ∷ later → 1 ≤ getD left (length before) 0 → isThere f text c ≡ false
 
 -- every letter was read once, the scratch is 0 throughout, and of whatever text the copy is the folding, its cues are told
-pub record Searched (page : ℕ) (book : List ℕ) (index place : ℕ) (copy scratch : List ℕ) (r : GroupFound) (scratch′ left′ places′ : List ℕ) : Type 0 where
-  pub next : NextGroup book index place (r .count) (r .end)
+pub record Searched (day page : ℕ) (book : List ℕ) (number place : ℕ) (copy scratch : List ℕ) (r : GroupFound) (scratch′ left′ places′ numbers′ : List ℕ) : Type 0 where
+  pub next : NextGroup day book number place (r .count) (r .number) (r .end)
   pub reads : r .reads ≡ length copy
   pub emptied : scratch′ ≡ replicate (length scratch) 0
   pub lefts : length (take (r .count) left′) ≡ r .count
   pub places : length (take (r .count) places′) ≡ r .count
-  pub told : (text : List ℕ) → copy ≡ map (foldOn page) text → Told (foldOn page) text (take (r .count) left′) (take (r .count) places′) (next .group)
+  pub told : (text : List ℕ) → copy ≡ map (foldOn page) text → Told (foldOn page) text (take (r .count) left′) (take (r .count) places′) (cuesOf (next .group))
+  pub numbers : take (r .count) numbers′ ≡ numbersOf (next .group)
 
 -- ---- the entries of a group
 
@@ -135,8 +162,10 @@ pub record Put (text : List ℕ) (index : ℕ) (left places : List ℕ) (known :
 
 -- ---- a group resolved
 
-pub record Begun (page : ℕ) (book : List ℕ) (index rest place : ℕ) (text copy scratch : List ℕ) (known : ℕ) (told : LineColumn) : Type 0 where
-  pub remaining : Remaining book index rest place
+pub record Begun (day page : ℕ) (book : List ℕ) (number index rest place : ℕ) (text copy scratch : List ℕ) (known : ℕ) (told : LineColumn) : Type 0 where
+  pub remaining : Remaining day book number place
+  pub rest-are : rest ≡ length (chosenAt day book number place)
+  pub behind : index ≤ number
   pub known-page : isPage page ≡ true
   pub small : length text ≤ 32768
   pub copied : copy ≡ map (foldOn page) text
@@ -145,13 +174,13 @@ pub record Begun (page : ℕ) (book : List ℕ) (index rest place : ℕ) (text c
 
 -- the places of the cues before the first one with a fault, and their entries. By them the group is judged, whatever places were found before: as many as the index says, and the last of them the known
 -- one
-pub record Grouped (page : ℕ) (book : List ℕ) (index place : ℕ) (text scratch entries : List ℕ) (known : ℕ) (r : GroupResolved) (scratch′ entries′ : List ℕ) : Type 0 where
+pub record Grouped (day page : ℕ) (book : List ℕ) (number index place : ℕ) (text scratch entries : List ℕ) (known : ℕ) (r : GroupResolved) (scratch′ entries′ : List ℕ) : Type 0 where
   pub count : ℕ
-  pub next : NextGroup book index place count (r .end)
+  pub next : NextGroup day book number place count (r .next) (r .end)
   pub places : List ℕ
   pub put : r .put ≡ length places
   pub judged : (found : List ℕ) → index ≡ length found → known ≡ placeBefore found
-      → judge (foldOn page) text found (numberedFrom index (next .group)) ≡ record { refusal = r .refusal; number = index + r .put; places = found ++ places }
+      → judge (foldOn page) text found (next .group) ≡ record { refusal = r .refusal; number = cond (eqb (r .refusal) 0) (index + r .put) (r .number); places = found ++ places }
   pub whole : r .refusal ≡ 0 → r .put ≡ count
   pub stopped : (r .refusal ≡ 0 → ⊥) → r .put < count
   pub entered : entries′ ≡ receivedFrom (3 * index) entries (entriesOf text places)
@@ -162,22 +191,22 @@ pub record Grouped (page : ℕ) (book : List ℕ) (index place : ℕ) (text scra
 
 -- ---- all groups
 
--- every test before 12 was passed, there is a cue, and the text is folded
-pub record Ready (page : ℕ) (book : List ℕ) (count : ℕ) (text copy scratch entries : List ℕ) : Type 0 where
+-- every test before 12 was passed, there is a cue that plays, and the text is folded
+pub record Ready (day page : ℕ) (book : List ℕ) (count : ℕ) (text copy scratch entries : List ℕ) : Type 0 where
   pub read : readBook book ≡ cues (cuesIn (readBook book))
-  pub number : count ≡ length (cuesIn (readBook book))
+  pub number : count ≡ length (playing day (cuesIn (readBook book)))
   pub some : 1 ≤ count
   pub known : isPage page ≡ true
   pub small : length text ≤ 32768
   pub copied : copy ≡ map (foldOn page) text
   pub room : 65535 ≤ length scratch
 
--- what the book's cues resolve to
-abbrev pub resolves : ℕ → List ℕ → List ℕ → Resolution
-resolves page book text = resolution (foldOn page) text (chosen (cuesIn (readBook book)))
+-- what the book's cues that play resolve to
+abbrev pub resolves : ℕ → ℕ → List ℕ → List ℕ → Resolution
+resolves day page book text = resolution (foldOn page) text (chosen day (cuesIn (readBook book)))
 
 -- the answer, the scratch and the entries
-pub record Placed (page : ℕ) (book text scratch entries : List ℕ) (r : Resolving) (scratch′ entries′ : List ℕ) : Type 0 where
-  pub answer : r ≡ answerOf (resolves page book text)
+pub record Placed (day page : ℕ) (book text scratch entries : List ℕ) (r : Resolving) (scratch′ entries′ : List ℕ) : Type 0 where
+  pub answer : r ≡ answerOf (resolves day page book text)
   pub emptied : scratch′ ≡ replicate (length scratch) 0
-  pub entered : entries′ ≡ received entries (resolves page book text .written)
+  pub entered : entries′ ≡ received entries (resolves day page book text .written)

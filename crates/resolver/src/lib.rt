@@ -1,15 +1,15 @@
-// The resolver (document 01, "Cue book, folding, lines"; document 02, (iv), (vi) and (vii)): from the cues of a book to place, line and column, as `outcome` defines it. The cues are resolved in groups, and each
-// group walks the folded text once.
+// The resolver (document 01, "Cue book, folding, lines"; document 02, (iv) and (vi) to (viii)): from the cues of a book that play on a day to place, line and column, as `outcome` defines it. The cues are
+// resolved in groups, and each group walks the folded text once.
 // It depends on `cue_fields`, `cues` and `cue_book` for the cues, on `fold`, on `phrases` and `automaton` for the walk of a group, on `line_column` for the line rule, on `tables` to clear the scratch,
 // and on `matching` for the laws of lent lists and of occurrences.
 use cues::CueAnswer;
 use line_column::LineColumn;
 ghost use mathlib.Core.Path.{_≡_};
 ghost use Prim.Native.Nat.{_+_, _≤_};
-ghost use lib.ListN.{length, set};
+ghost use lib.ListN.{length, getD, set};
 ghost use Rattle.line_column.specs.LineColumn.{lineColumn};
 ghost use Rattle.resolver.specs.Resolver.{Resolved};
-ghost use Rattle.resolver.specs.Walking.{Gatherable, Gathered, Searchable, Searched, Put, Begun, Grouped, Ready, Placed};
+ghost use Rattle.resolver.specs.Walking.{Remaining, NextRead, Gatherable, Gathered, Searchable, Searched, Put, Begun, Grouped, Ready, Placed};
 
 // What resolving gives back: a refusal or 0, its number, and how many letters of the text were read.
 #[repr(C)]
@@ -19,15 +19,26 @@ pub struct Resolving {
     pub reads: u32,
 }
 
-// A group as it was read from the book: how many cues it has, and the place after them.
-struct CuesRead {
-    count: usize,
+// The next cue that plays: its index in the book, its phrase as the part of the book where it stands, its ordinal, and the place after it.
+struct NextCue {
+    number: usize,
+    phrase: usize,
+    phrase_end: usize,
+    ordinal: u32,
     end: usize,
 }
 
-// A group whose cues were looked for: how many it has, the place after them in the book, and the letters of the text that were read.
+// A group as it was read from the book: how many cues it has, the index in the book of the cue after them, and its place.
+struct CuesRead {
+    count: usize,
+    number: usize,
+    end: usize,
+}
+
+// A group whose cues were looked for: how many it has, the index in the book of the cue after them, its place, and the letters of the text that were read.
 struct GroupFound {
     count: usize,
+    number: usize,
     end: usize,
     reads: usize,
 }
@@ -40,79 +51,148 @@ struct EntriesPut {
     spot: LineColumn,
 }
 
-// A group that was resolved: the place after its cues in the book, the letters of the text that were read, the first fault or 0, for how many cues entries were put, and the last place with its line and
-// column.
+// A group that was resolved: the index in the book of the cue after it, its place, the letters of the text that were read, the first fault or 0, the index in the book of the cue with the fault, for how many
+// cues entries were put, and the last place with its line and column.
 struct GroupResolved {
+    next: usize,
     end: usize,
     reads: usize,
     refusal: u32,
+    number: u32,
     put: usize,
     known: u32,
     spot: LineColumn,
 }
 
-// Reads the next group from the book, of which so many cues are left at a place: where each phrase starts, its length, and the cue's ordinal. A cue that would be the 65th, or pass 4,096 phrase bytes, is
-// left for the next group.
+// What reading on would give where no cue that plays were left.
+fn no_cue(number: usize, place: usize) -> NextCue
+    ensures { λ r. ⌜ r .number ≡ number ⌝ }
+{
+    NextCue {
+        number,
+        phrase: 0,
+        phrase_end: 0,
+        ordinal: 0,
+        end: place,
+    }
+}
+
+// Reads on from a place of the book, where the cue with that index begins, to the next cue that plays on a day. There is one.
+fn next_cue(day: u32, book: &[u8], number: usize, place: usize) -> NextCue
+    requires { ⌜ Remaining day (now book) number place ⌝ }
+    ensures { λ r. ⌜ NextRead day (now (book .entry)) number place r ⌝ }
+{
+    let mut index = number;
+    let mut at = place;
+    while at < book.len() {
+        let cue = cues::read_cue(book, at);
+        let CueAnswer::Cue {
+            phrase,
+            phrase_end,
+            ordinal,
+            title: _,
+            title_end: _,
+            days,
+            end,
+        } = cue
+        else {
+            // the whole book was read before
+            return no_cue(number, place);
+        };
+        if cues::plays(days, day) {
+            return NextCue {
+                number: index,
+                phrase,
+                phrase_end,
+                ordinal,
+                end,
+            };
+        }
+        index += 1;
+        at = end;
+    }
+    // and a cue that plays is left
+    no_cue(number, place)
+}
+
+// Reads the next group from the book, at the place of the cue with that index, where so many that play on a day are left: where each phrase starts, its length, the cue's ordinal, and its index. A cue that
+// would be the 65th, or pass 4,096 phrase bytes, is left for the next group.
 fn gather(
+    day: u32,
     book: &[u8],
-    index: usize,
+    number: usize,
     rest: usize,
     place: usize,
     starts: &mut [usize],
     lens: &mut [usize],
     ordinals: &mut [u32],
+    numbers: &mut [u32],
 ) -> CuesRead
-    requires { ⌜ Gatherable (now book) index rest place (now starts) (now lens) (now ordinals) ⌝ }
-    ensures { λ r. ⌜ Gathered (now (book .entry)) index place r (now (starts .exit)) (now (lens .exit)) (now (ordinals .exit)) ⌝ }
+    requires { ⌜ Gatherable day (now book) number rest place (now starts) (now lens) (now ordinals) (now numbers) ⌝ }
+    ensures { λ r. ⌜ Gathered day (now (book .entry)) number place r (now (starts .exit)) (now (lens .exit)) (now (ordinals .exit)) (now (numbers .exit)) ⌝ }
 {
     let mut count = 0;
     let mut letters = 0;
+    let mut next = number;
     let mut end = place;
     while count < rest {
-        let cue = cues::read_cue(book, end);
-        let CueAnswer::Cue {
-            phrase: start,
-            phrase_end: stop,
-            ordinal,
-            title: _,
-            end: next,
-        } = cue
-        else {
-            // the whole book was read before, so every cue is
-            return CuesRead { count, end };
-        };
-        let len = stop - start;
+        let cue = next_cue(day, book, next, end);
+        let len = cue.phrase_end - cue.phrase;
         letters += len;
         if !outcome::group_fits(count + 1, letters) {
-            return CuesRead { count, end };
+            return CuesRead {
+                count,
+                number: next,
+                end,
+            };
         }
-        starts[count] = start;
+        let index = cue.number as u32;
+        starts[count] = cue.phrase;
         lens[count] = len;
-        ordinals[count] = ordinal;
+        ordinals[count] = cue.ordinal;
+        numbers[count] = index;
         count += 1;
-        end = next;
+        next = cue.number + 1;
+        end = cue.end;
     }
-    CuesRead { count, end }
+    CuesRead {
+        count,
+        number: next,
+        end,
+    }
 }
 
-// Looks for the next group's cues in the folded text, in one walk. For each cue it leaves how many occurrences are missing up to the one that it names, 0 where that one was found, and its place.
+// Looks for the next group's cues in the folded text, in one walk. For each cue it leaves how many occurrences are missing up to the one that it names, 0 where that one was found, its place, and its index in
+// the book.
 fn find_group(
+    day: u32,
     page: u32,
     book: &[u8],
-    index: usize,
+    number: usize,
     rest: usize,
     place: usize,
     copy: &[u8],
     scratch: &mut [u16],
     left: &mut [u32],
     places: &mut [u32],
+    numbers: &mut [u32],
 ) -> GroupFound
-    requires { ⌜ Searchable page (now book) index rest place (now copy) (now scratch) (now left) (now places) ⌝ }
-    ensures { λ r. ⌜ Searched page (now (book .entry)) index place (now (copy .entry)) (now (scratch .entry)) r (now (scratch .exit)) (now (left .exit)) (now (places .exit)) ⌝ }
+    requires { ⌜ Searchable day page (now book) number rest place (now copy) (now scratch) (now left) (now places) (now numbers) ⌝ }
+    ensures { λ r. ⌜ Searched day page (now (book .entry)) number place (now (copy .entry)) (now (scratch .entry)) r (now (scratch .exit)) (now (left .exit)) (now (places .exit)) (now (numbers .exit)) ⌝ }
 {
     let mut starts = [0; 64];
     let mut lens = [0; 64];
-    let cues = gather(book, index, rest, place, &mut starts, &mut lens, left);
+    let cues = gather(
+        day,
+        book,
+        number,
+        rest,
+        place,
+        &mut starts,
+        &mut lens,
+        left,
+        numbers,
+    );
     let count = cues.count;
     let walked = automaton::locate(
         page,
@@ -126,9 +206,20 @@ fn find_group(
     );
     GroupFound {
         count,
+        number: cues.number,
         end: cues.end,
         reads: walked.reads,
     }
+}
+
+// The index in the book of the cue after those for which entries were put, which has the fault; 0 where there is none.
+fn faulty_number(numbers: &[u32], put: usize) -> u32
+    ensures { λ r. ⌜ r ≡ getD (now (numbers .entry)) put 0 ⌝ }
+{
+    if numbers.len() <= put {
+        return 0;
+    }
+    numbers[put]
 }
 
 // Puts a cue's three entries: place, line, column. Line and column are counted on from those of a known place, and given back for the next cue.
@@ -200,8 +291,10 @@ fn put_group(
 
 // Resolves the next group, up to the first of its cues with a fault.
 fn resolve_group(
+    day: u32,
     page: u32,
     book: &[u8],
+    number: usize,
     index: usize,
     rest: usize,
     place: usize,
@@ -212,21 +305,24 @@ fn resolve_group(
     known: u32,
     told: LineColumn,
 ) -> GroupResolved
-    requires { ⌜ Begun page (now book) index rest place (now text) (now copy) (now scratch) known told ⌝ }
-    ensures { λ r. ⌜ Grouped page (now (book .entry)) index place (now (text .entry)) (now (scratch .entry)) (now (entries .entry)) known r (now (scratch .exit)) (now (entries .exit)) ⌝ }
+    requires { ⌜ Begun day page (now book) number index rest place (now text) (now copy) (now scratch) known told ⌝ }
+    ensures { λ r. ⌜ Grouped day page (now (book .entry)) number index place (now (text .entry)) (now (scratch .entry)) (now (entries .entry)) known r (now (scratch .exit)) (now (entries .exit)) ⌝ }
 {
     let mut left = [0; 64];
     let mut places = [0; 64];
+    let mut numbers = [0; 64];
     let group = find_group(
+        day,
         page,
         book,
-        index,
+        number,
         rest,
         place,
         copy,
         scratch,
         &mut left,
         &mut places,
+        &mut numbers,
     );
     let count = group.count;
     let put = put_group(
@@ -238,19 +334,23 @@ fn resolve_group(
         known,
         told,
     );
+    let faulty = faulty_number(&numbers[..count], put.count);
     let spot = put.spot;
     GroupResolved {
+        next: group.number,
         end: group.end,
         reads: group.reads,
         refusal: put.refusal,
+        number: faulty,
         put: put.count,
         known: put.known,
         spot,
     }
 }
 
-// Resolves group by group, reading the book's cues once more, up to the first cue with a fault.
+// Resolves group by group, reading the book's cues once more, up to the first cue with a fault. So many play on the day.
 fn resolve_groups(
+    day: u32,
     page: u32,
     book: &[u8],
     cues: usize,
@@ -259,9 +359,10 @@ fn resolve_groups(
     scratch: &mut [u16],
     entries: &mut [u32],
 ) -> Resolving
-    requires { ⌜ Ready page (now book) cues (now text) (now copy) (now scratch) (now entries) ⌝ }
-    ensures { λ r. ⌜ Placed page (now (book .entry)) (now (text .entry)) (now (scratch .entry)) (now (entries .entry)) r (now (scratch .exit)) (now (entries .exit)) ⌝ }
+    requires { ⌜ Ready day page (now book) cues (now text) (now copy) (now scratch) (now entries) ⌝ }
+    ensures { λ r. ⌜ Placed day page (now (book .entry)) (now (text .entry)) (now (scratch .entry)) (now (entries .entry)) r (now (scratch .exit)) (now (entries .exit)) ⌝ }
 {
+    let mut number = 0;
     let mut index = 0;
     let mut place = 0;
     let mut reads = 0;
@@ -269,8 +370,10 @@ fn resolve_groups(
     let mut spot = LineColumn { line: 1, column: 1 };
     while index < cues {
         let g = resolve_group(
+            day,
             page,
             book,
+            number,
             index,
             cues - index,
             place,
@@ -282,32 +385,33 @@ fn resolve_groups(
             spot,
         );
         let walked = reads + g.reads;
-        index += g.put;
         if g.refusal != 0 {
-            let number = index as u32;
             let total = walked as u32;
             return Resolving {
                 refusal: g.refusal,
-                number,
+                number: g.number,
                 reads: total,
             };
         }
+        index += g.put;
         reads = walked;
+        number = g.next;
         place = g.end;
         known = g.known;
         spot = g.spot;
     }
-    let number = index as u32;
+    let count = index as u32;
     let total = reads as u32;
     Resolving {
         refusal: 0,
-        number,
+        number: count,
         reads: total,
     }
 }
 
-// Resolves the cues of a book in a text, both folded by a page: 0 and the number of cues, or the refusal and its number; and the letters that were read.
+// Resolves the cues of a book that play on a day in a text, both folded by a page: 0 and the number of these cues, or the refusal and its number; and the letters that were read.
 pub fn resolve(
+    day: u32,
     page: u32,
     book: &[u8],
     text: &[u8],
@@ -315,10 +419,10 @@ pub fn resolve(
     scratch: &mut [u16],
     entries: &mut [u32],
 ) -> Resolving
-    ensures { λ r. ⌜ Resolved page (now (book .entry)) (now (text .entry)) (now (copy .entry)) (now (scratch .entry)) (now (entries .entry)) r (now (copy .exit)) (now (scratch .exit)) (now (entries .exit)) ⌝ }
+    ensures { λ r. ⌜ Resolved day page (now (book .entry)) (now (text .entry)) (now (copy .entry)) (now (scratch .entry)) (now (entries .entry)) r (now (copy .exit)) (now (scratch .exit)) (now (entries .exit)) ⌝ }
 {
     let n = text.len();
-    let refusal = outcome::refused(page, n, copy.len(), scratch.len());
+    let refusal = outcome::refused(day, page, n, copy.len(), scratch.len());
     if refusal != 0 {
         return Resolving {
             refusal,
@@ -326,7 +430,7 @@ pub fn resolve(
             reads: 0,
         };
     }
-    let read = cue_book::read_book(book);
+    let read = cue_book::read_playing(book, day);
     if read.refusal != 0 {
         return Resolving {
             refusal: read.refusal,
@@ -352,5 +456,5 @@ pub fn resolve(
             reads: 0,
         };
     }
-    resolve_groups(page, book, cues, text, &copy[..n], scratch, entries)
+    resolve_groups(day, page, book, cues, text, &copy[..n], scratch, entries)
 }

@@ -12,10 +12,10 @@ use Rattle.resolver.proofs.find_group.Tie as tie
 
 -- the places of this proof: where the call came in, the group that was gathered, and the walk
 abbrev start : tie.After-gather → tie.Start
-start k = k .before .before .before .before .before .before .before .before .before
+start k = k .before .before .before .before .before .before .before .before .before .before .before
 
-abbrev gathered : tie.After-slice-known4 → tie.After-gather
-gathered s = s .before .before .before .before
+abbrev gathered : tie.After-slice-known6 → tie.After-gather
+gathered s = s .before .before .before .before .before .before
 
 abbrev walked : tie.After-locate → tie.After-gather
 walked w = gathered (w .before .before .before .before .before .before)
@@ -29,25 +29,25 @@ module _ (k : tie.After-gather) where
   few = few-held (start k .pre) (k .gather .ensures)
 
   abbrev starts : List ℕ
-  starts = k .gather .last .1 .1 .1 .1 .0
+  starts = k .gather .last .1 .1 .1 .1 .1 .0
 
   abbrev lens : List ℕ
-  lens = k .gather .last .1 .1 .1 .1 .1 .0
+  lens = k .gather .last .1 .1 .1 .1 .1 .1 .0
 
   abbrev left : List ℕ
-  left = k .gather .last .1 .1 .1 .1 .1 .1 .0
+  left = k .gather .last .1 .1 .1 .1 .1 .1 .1 .0
 
   abbrev places : List ℕ
   places = start k .args .places .now
 
   starts-room : count ≤ length starts
-  starts-room = omega (arith, few, k .gather .kept .1 .1 .1 .1 .0)
+  starts-room = omega (arith, few, k .gather .kept .1 .1 .1 .1 .1 .0)
 
   lens-room : count ≤ length lens
-  lens-room = omega (arith, few, k .gather .kept .1 .1 .1 .1 .1 .0)
+  lens-room = omega (arith, few, k .gather .kept .1 .1 .1 .1 .1 .1 .0)
 
   left-room : count ≤ length left
-  left-room = omega (arith, few, k .gather .kept .1 .1 .1 .1 .1 .1 .0, start k .pre .left-room)
+  left-room = omega (arith, few, k .gather .kept .1 .1 .1 .1 .1 .1 .1 .0, start k .pre .left-room)
 
   places-room : count ≤ length places
   places-room = omega (arith, few, start k .pre .places-room)
@@ -97,6 +97,9 @@ same-length-2 c = search needs
 same-length-3 : tie.Need-same-length-3
 same-length-3 c = search needs
 
+same-length-4 : tie.Need-same-length-4
+same-length-4 c = search needs
+
 returns : tie.Need-returns
 returns c =
     let w = c .before .before .before .before .before .before in
@@ -122,4 +125,5 @@ find-group-spec =
     same-length
     same-length-2
     same-length-3
+    same-length-4
     returns)

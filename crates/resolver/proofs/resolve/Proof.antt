@@ -9,9 +9,10 @@ use Rattle.matching.proofs.Received.{received-front}
 use Rattle.fold.specs.Fold.{foldOn}
 use Rattle.fold.proofs.Fold.{letters-made, letters-left}
 use Rattle.matching.specs.declared.Answer.{Answer}
-use Rattle.cue_book.specs.Reading.{cues, readBook, numberOf, cuesIn}
-use Rattle.cue_book.proofs.Books.{accepted-book}
-use Rattle.outcome.specs.Outcome.{Call, callRefusal}
+use Rattle.cue_book.specs.Reading.{cues, readBook, playing, cuesIn}
+use Rattle.cue_book.proofs.Books.{accepted-book, playing-is, playing-cues}
+use Rattle.outcome.specs.Outcome.{chosen, Call, callRefusal}
+use Rattle.outcome.proofs.Choosing.{length-chosen}
 use Rattle.outcome.proofs.Calls.{Enough, enough}
 use Rattle.resolver.specs.Resolver.{call}
 use Rattle.resolver.proofs.Walking.{along-first, along-end}
@@ -21,7 +22,7 @@ use Rattle.resolver.proofs.resolve.Tie as tie
 
 -- the call, as it came in
 abbrev called : tie.Start → Call
-called s = let a = s .args in call (a .page) (a .text .now) (a .copy .now) (a .scratch .now) (a .entries .now)
+called s = let a = s .args in call (a .day) (a .page) (a .text .now) (a .copy .now) (a .scratch .now) (a .entries .now)
 
 -- the places after the tests of the memory, of the book and of the entries, and where the call came in
 abbrev start : tie.Else1 → tie.Start
@@ -44,16 +45,19 @@ some e = e .before .before .before
 fine : (e : tie.Else1) → callRefusal (called (start e)) ≡ 0
 fine e = sym (e .before .refused .ensures) ∙ e .if1 .left
 
--- the book was read, and its cues are as many as reading it gave
+-- the book was read, and as many of its cues play as reading it gave
 module _ (e : tie.Else2) where
   abbrev book : List ℕ
   book = start (tested e) .args .book .now
 
-  read : (readBook book ≡ cues (cuesIn (readBook book))) × (numberOf (readBook book) ≡ length (cuesIn (readBook book)))
-  read = accepted-book book (sym (ap (λ (r : Answer). r .refusal) (e .before .before .read-book .ensures)) ∙ e .if2 .left)
+  read : readBook book ≡ cues (cuesIn (readBook book))
+  read = accepted-book book (sym (ap (λ (r : Answer). r .refusal) (e .before .before .read-playing .ensures ∙ playing-is (start (tested e) .args .day) book)) ∙ e .if2 .left) .0
 
-  number : e .before .before .read-book .result .number ≡ length (cuesIn (readBook book))
-  number = ap (λ (x : Answer). x .number) (e .before .before .read-book .ensures) ∙ read .1
+  abbrev day : ℕ
+  day = start (tested e) .args .day
+
+  number : e .before .before .read-playing .result .number ≡ length (playing day (cuesIn (readBook book)))
+  number = ap (λ (x : Answer). x .number) (e .before .before .read-playing .ensures ∙ playing-cues day book read)
 
 -- the copy's front is the folded text, and the entries are enough
 module _ (l : tie.After-letters) where
@@ -80,20 +84,20 @@ module _ (l : tie.After-letters) where
   held : take (length text) (l .letters .last .1 .1 .0) ≡ values
   held = letters-left (l .letters .ensures) (lent .known) (lent .whole)
 
-  three : 3 * length (cuesIn (readBook (book (accepted l)))) ≤ length (entry .args .entries .now)
+  three : 3 * length (playing (day (accepted l)) (cuesIn (readBook (book (accepted l))))) ≤ length (entry .args .entries .now)
   three = omega (arith, number (accepted l), l .before .before .if3 .left)
 
 refused-requires : tie.Need-refused-requires
 refused-requires c κs = search needs
 
 returns : tie.Need-returns
-returns c = resolved-memory _ _ _ _ _ _ (c .before .refused .ensures) (c .if1 .taken)
+returns c = resolved-memory _ _ _ _ _ _ _ (c .before .refused .ensures) (c .if1 .taken)
 
-read-book-requires : tie.Need-read-book-requires
-read-book-requires c κs = search needs
+read-playing-requires : tie.Need-read-playing-requires
+read-playing-requires c κs = search needs
 
 returns-2 : tie.Need-returns-2
-returns-2 c = let b = c .before .before in resolved-book _ _ _ _ _ _ (fine (b .before)) (b .read-book .ensures) (c .if2 .taken)
+returns-2 c = let b = c .before .before in resolved-book _ _ _ _ _ _ _ (fine (b .before)) (b .read-playing .ensures) (c .if2 .taken)
 
 cast-cues : tie.Need-cast-cues
 cast-cues c = search needs
@@ -102,7 +106,7 @@ mul-if3 : tie.Need-mul-if3
 mul-if3 c = search needs
 
 returns-3 : tie.Need-returns-3
-returns-3 c = let e = c .before .before in resolved-few _ _ _ _ _ _ (fine (tested e)) (read e .0) (omega (arith, number e, c .if3 .taken))
+returns-3 c = let e = c .before .before in resolved-few _ _ _ _ _ _ _ (fine (tested e)) (read e) (omega (arith, number e, c .if3 .taken))
 
 letters-requires : tie.Need-letters-requires
 letters-requires c κs = search needs
@@ -123,8 +127,9 @@ returns-4 c =
     let l = none e in
     let a = entry l .args in
     let cs = cuesIn (readBook (a .book .now)) in
-    resolved-works _ _ _ _ _ _ (fine (tested (accepted l))) (read (accepted l) .0) (three l) (copied l)
-    (along-end (along-first (a .page) (a .book .now) (a .text .now) cs (a .entries .now) (read (accepted l) .0)) refl (omega (arith, number (accepted l), e .if4 .taken)) (s .set-all .ensures))
+    let none : length (chosen (a .day) cs) ≤ 0 = omega (arith, length-chosen (a .day) 0 cs, number (accepted l), e .if4 .taken) in
+    resolved-works _ _ _ _ _ _ _ (fine (tested (accepted l))) (read (accepted l)) (three l) (copied l)
+    (along-end (along-first (a .day) (a .page) (a .book .now) (a .text .now) (a .entries .now) (read (accepted l))) refl none (s .set-all .ensures))
 
 slice-reshare-prefix-resolve-groups : tie.Need-slice-reshare-prefix-resolve-groups
 slice-reshare-prefix-resolve-groups c =
@@ -140,7 +145,7 @@ resolve-groups-requires : tie.Need-resolve-groups-requires
 resolve-groups-requires c κs =
     let e = c .before .before .before in
     let l = some e in
-    record { read = read (accepted l) .0; number = number (accepted l); some = omega (arith, e .if4 .left); known = lent l .known; small = lent l .small; copied = held l; room = lent l .tables }
+    record { read = read (accepted l); number = number (accepted l); some = omega (arith, e .if4 .left); known = lent l .known; small = lent l .small; copied = held l; room = lent l .tables }
 
 same-length-3 : tie.Need-same-length-3
 same-length-3 c = search needs
@@ -155,7 +160,7 @@ returns-5 : tie.Need-returns-5
 returns-5 c =
     let k = c .before .before .before .before in
     let l = some (k .before .before .before .before) in
-    resolved-works _ _ _ _ _ _ (fine (tested (accepted l))) (read (accepted l) .0) (three l) (copied l) (k .resolve-groups .ensures)
+    resolved-works _ _ _ _ _ _ _ (fine (tested (accepted l))) (read (accepted l)) (three l) (copied l) (k .resolve-groups .ensures)
 
 pub resolve-spec : {M : Type 1} → statement M
 resolve-spec =
@@ -163,7 +168,7 @@ resolve-spec =
     (tie.spec
     refused-requires
     returns
-    read-book-requires
+    read-playing-requires
     returns-2
     cast-cues
     mul-if3
