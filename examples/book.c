@@ -1,8 +1,9 @@
 /* Writes a cue book from a table: book [--page 1|15] [--bytes] < TABLE > BOOK
  *
- * A line of the table is a cue: ordinal, TAB, phrase, TAB, title. Empty lines and lines that begin with # are passed over. The book is in ISO 8859-1,
- * or with --page 15 in ISO 8859-15; the table is in UTF-8, or with --bytes in the book's letters. In phrase and title \n is byte 10, as in a phrase
- * that goes over a line's end, \xNN is the byte of that hexadecimal number, and \\ is a backslash.
+ * A line of the table is a cue: ordinal, TAB, phrase, TAB, title. A cue that plays on some days alone has two columns more: TAB, first day, TAB, last
+ * day, both as year-month-day and both included; they may also be empty, as a spreadsheet leaves them. Empty lines and lines that begin with # are passed
+ * over. The book is in ISO 8859-1, or with --page 15 in ISO 8859-15; the table is in UTF-8, or with --bytes in the book's letters. In phrase and title
+ * \n is byte 10, as in a phrase that goes over a line's end, \xNN is the byte of that hexadecimal number, and \\ is a backslash.
  *
  * Every line that is refused is told on standard error, and no book is written then; the exit status is 1. It is 2 if reading or writing fails. */
 #include <ctype.h>
@@ -10,19 +11,23 @@
 #include <stdlib.h>
 #include <string.h>
 
+#include "date.h"
 #include "libretto.h"
 #include "page.h"
 
 enum { REFUSED = 1, FAILED = 2 };
 
-/* Room for the longest cue with each letter written as \xNN, and 100 bytes more for the ordinal, the TABs and the line's end. */
+/* Room for the longest cue with each letter written as \xNN, and 100 bytes more for the ordinal, the dates, the TABs and the line's end. */
 #define LINE_ROOM (4 * (LIBRETTO_PHRASE_MAX + LIBRETTO_TITLE_MAX) + 100)
 
-/* A part of the line that is being read. */
+/* A column of the line that is being read. */
 struct field {
     uint8_t *bytes;
     size_t len;
 };
+
+/* The columns of a line, in their order. */
+enum { ORDINAL, PHRASE, TITLE, FIRST_DAY, LAST_DAY, COLUMNS };
 
 static uint8_t line[LINE_ROOM];
 static size_t line_len;
@@ -48,18 +53,22 @@ static int read_line(void)
     return byte != EOF || line_len > 0;
 }
 
-/* Takes the field up to the next TAB off the rest of the line; gives 0 if there is no TAB. */
-static int take_field(struct field *rest, struct field *field)
+/* Takes the line apart at its TABs; gives the number of its columns, of which no more are kept than a cue has. */
+static size_t take_columns(struct field columns[COLUMNS])
 {
-    uint8_t *tab = memchr(rest->bytes, '\t', rest->len);
+    size_t count = 0, start = 0;
 
-    if (tab == NULL)
-        return 0;
-    field->bytes = rest->bytes;
-    field->len = (size_t)(tab - rest->bytes);
-    rest->bytes += field->len + 1;
-    rest->len -= field->len + 1;
-    return 1;
+    for (size_t end = 0; end <= line_len; end++) {
+        if (end < line_len && line[end] != '\t')
+            continue;
+        if (count < COLUMNS) {
+            columns[count].bytes = line + start;
+            columns[count].len = end - start;
+        }
+        count++;
+        start = end + 1;
+    }
+    return count;
 }
 
 /* The number that a field of digits writes, or -1 if it is no such field. What is above all ordinals stays above them. */
@@ -164,7 +173,19 @@ static const char *read_letters(struct field *field)
     return NULL;
 }
 
-/* Why a cue was refused. The buffer is never too short for it. */
+/* Reads a column that is a date as its day; gives what is wrong with it, or NULL. */
+static const char *read_day(struct field field, uint32_t *day)
+{
+    uint32_t date[3];
+
+    if (!read_date(field.bytes, field.len, date))
+        return "a day is not written as year-month-day, as in 2026-03-14";
+    libretto_answer read = libretto_day(date[0], date[1], date[2]);
+    *day = read.number;
+    return read.refusal == LIBRETTO_OK ? NULL : "a date is not in the calendar's 2000 to 2099";
+}
+
+/* Why a cue was refused. The buffer is never too short for it, and its days are in the calendar. */
 static const char *words(uint32_t refusal)
 {
     switch (refusal) {
@@ -176,6 +197,8 @@ static const char *words(uint32_t refusal)
         return "the phrase has more than 1,024 letters";
     case LIBRETTO_BAD_FIELD:
         return "the ordinal is not from 1 to 65,535, or the title has more than 200 letters";
+    case LIBRETTO_BAD_DATE:
+        return "the first day is after the last";
     default:
         return "the cue was refused";
     }
@@ -184,25 +207,32 @@ static const char *words(uint32_t refusal)
 /* Puts the line's cue at the book's end; gives what is wrong with it, or NULL. */
 static const char *add_cue(void)
 {
-    struct field title = {line, line_len}, number, phrase;
+    struct field columns[COLUMNS], *phrase = &columns[PHRASE], *title = &columns[TITLE];
+    uint32_t first = 0, last = 0;
 
     if (line_len > LINE_ROOM)
         return "the line is too long";
-    if (!take_field(&title, &number) || !take_field(&title, &phrase) || memchr(title.bytes, '\t', title.len) != NULL)
-        return "the line is not ordinal, TAB, phrase, TAB, title";
-    long ordinal = read_ordinal(number);
+    size_t count = take_columns(columns);
+    if (count != TITLE + 1 && count != COLUMNS)
+        return "the line is not ordinal, TAB, phrase, TAB, title, with or without TAB, first day, TAB, last day";
+    long ordinal = read_ordinal(columns[ORDINAL]);
     if (ordinal < 0)
         return "the ordinal is not a number";
-    const char *wrong = read_letters(&phrase);
+    const char *wrong = read_letters(phrase);
     if (wrong == NULL)
-        wrong = read_letters(&title);
+        wrong = read_letters(title);
+    int dated = count == COLUMNS && columns[FIRST_DAY].len + columns[LAST_DAY].len > 0;
+    if (wrong == NULL && dated)
+        wrong = read_day(columns[FIRST_DAY], &first);
+    if (wrong == NULL && dated)
+        wrong = read_day(columns[LAST_DAY], &last);
     if (wrong != NULL)
         return wrong;
     if (cues == LIBRETTO_CUES_MAX)
         return "the book has 999 cues already";
 
-    libretto_answer written = libretto_write_cue(book + book_len, sizeof book - book_len, phrase.bytes, phrase.len, (uint32_t)ordinal,
-                                                 title.bytes, title.len);
+    libretto_answer written = libretto_write_cue(book + book_len, sizeof book - book_len, phrase->bytes, phrase->len, (uint32_t)ordinal,
+                                                 title->bytes, title->len, (uint32_t)dated, first, last);
     if (written.refusal == LIBRETTO_OK) {
         book_len += written.number;
         cues++;

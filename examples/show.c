@@ -1,7 +1,9 @@
-/* Prints the show file of a libretto and a cue book: show [--page 1|15] [--bytes] TEXT BOOK
+/* Prints the show file of a libretto and a cue book for a day: show [--page 1|15] [--bytes] DAY TEXT BOOK
  *
- * First a line for each cue: its index from 0, its place from 0, its line and its column from 1, and its title, which may be empty. Then the refrain
- * list of each phrase: how often it stands in the text, whether in capital or small letters and overlapping ones included, and at which places.
+ * The day is year-month-day, as in 2026-03-14. Cues that do not play on it are left out of all that follows; the others keep their indexes.
+ *
+ * First a line for each cue: its index in the book from 0, its place from 0, its line and its column from 1, and its title, which may be empty. Then the
+ * refrain list of each phrase: how often it stands in the text, whether in capital or small letters and overlapping ones included, and at which places.
  * Cues whose phrases differ in capital and small letters alone count on one refrain, which is printed as the first of them writes it.
  *
  * Text and book are in ISO 8859-1, or with --page 15 in ISO 8859-15. Titles and phrases are printed in UTF-8, or with --bytes as they stand. A byte 10
@@ -12,6 +14,7 @@
 #include <stdio.h>
 #include <string.h>
 
+#include "date.h"
 #include "libretto.h"
 #include "page.h"
 
@@ -26,8 +29,14 @@ enum { REFUSED = 1, FAILED = 2 };
 static uint8_t text[TEXT_ROOM], book[BOOK_ROOM];
 static size_t text_len, book_len;
 
-static libretto_cue cues[LIBRETTO_CUES_MAX];
-static size_t cues_len;
+/* The day, and the cues that play on it, each with its index in the book and the place where it begins there. */
+static uint32_t day;
+static struct {
+    libretto_cue cue;
+    uint32_t index;
+    size_t start;
+} playing[LIBRETTO_CUES_MAX];
+static size_t playing_len;
 
 /* The text folded, and the phrases folded, each where it stands in the book. */
 static uint8_t folded_text[LIBRETTO_TEXT_MAX], folded_book[BOOK_ROOM];
@@ -99,22 +108,40 @@ static void print_phrase(FILE *out, const libretto_cue *cue)
     putc('"', out);
 }
 
-/* Notes the cues of a book that the library has accepted as a whole, and folds their phrases. */
+/* Notes the playing cues of a book that the library has accepted as a whole, and folds their phrases. */
 static void note_cues(void)
 {
-    for (size_t place = 0; place < book_len; place = cues[cues_len++].end) {
-        libretto_cue cue = libretto_read_cue(book, book_len, place);
+    libretto_cue cue;
+    uint32_t index = 0;
+
+    for (size_t place = 0; place < book_len; place = cue.end, index++) {
+        cue = libretto_read_cue(book, book_len, place);
         assert(cue.refusal == LIBRETTO_OK);
+        if (cue.dated && (day < cue.first || day > cue.last))
+            continue;
         libretto_fold_text(page, book + cue.phrase_start, cue.phrase_len, folded_book + cue.phrase_start, cue.phrase_len);
-        cues[cues_len] = cue;
+        playing[playing_len].cue = cue;
+        playing[playing_len].index = index;
+        playing[playing_len++].start = place;
     }
+}
+
+/* Where a cue that plays stands among those that do, by its index in the book. */
+static size_t playing_at(uint32_t index)
+{
+    size_t k = 0;
+
+    while (k < playing_len && playing[k].index != index)
+        k++;
+    assert(k < playing_len);
+    return k;
 }
 
 /* Resolves the cues of a part of the book. */
 static libretto_resolving resolve(size_t start, size_t end, uint32_t *into, size_t into_len)
 {
-    return libretto_resolve(page, book + start, end - start, text, text_len, folded_text, sizeof folded_text, scratch, LIBRETTO_SCRATCH_RESOLVER,
-                            into, into_len);
+    return libretto_resolve(day, page, book + start, end - start, text, text_len, folded_text, sizeof folded_text, scratch,
+                            LIBRETTO_SCRATCH_RESOLVER, into, into_len);
 }
 
 /* Lists all places of a cue's folded phrase in the folded text, which the resolver has left in its copy; gives their number. */
@@ -145,21 +172,23 @@ static const char *words(uint32_t refusal)
         return "the cue's occurrence does not exist";
     case LIBRETTO_NOT_FORWARD:
         return "the cue does not stand behind the cue before it";
+    case LIBRETTO_BAD_DATE:
+        return "a date is not in the calendar's 2000 to 2099, or the first day is after the last";
     default:
         return "the lent memory is too short";
     }
 }
 
-/* Tells where a cue stands that does not stand behind the one before it, and where that one does, whose entries are written. By itself the cue is
- * resolved, since it has an occurrence. */
-static void tell_not_forward(uint32_t number)
+/* Tells where a cue stands that does not stand behind the playing one before it, and where that one does, whose entries are written. By itself the cue
+ * is resolved, since it has an occurrence. */
+static void tell_not_forward(size_t k)
 {
-    const uint32_t *before = entries + (number - 1) * LIBRETTO_CUE_ENTRIES;
+    const uint32_t *before = entries + (k - 1) * LIBRETTO_CUE_ENTRIES;
     uint32_t at[LIBRETTO_CUE_ENTRIES];
-    libretto_resolving alone = resolve(cues[number - 1].end, cues[number].end, at, LIBRETTO_CUE_ENTRIES);
+    libretto_resolving alone = resolve(playing[k].start, playing[k].cue.end, at, LIBRETTO_CUE_ENTRIES);
 
     assert(alone.refusal == LIBRETTO_OK);
-    fprintf(stderr, " is at line %u, column %u, cue %u at line %u, column %u", (unsigned)at[1], (unsigned)at[2], (unsigned)(number - 1),
+    fprintf(stderr, " is at line %u, column %u, cue %u at line %u, column %u", (unsigned)at[1], (unsigned)at[2], (unsigned)playing[k - 1].index,
             (unsigned)before[1], (unsigned)before[2]);
 }
 
@@ -172,11 +201,12 @@ static int refuse(const char *text_path, const char *book_path, uint32_t refusal
     else
         fprintf(stderr, "%s: cue %u: %s", book_path, (unsigned)number, words(refusal));
     if (refusal == LIBRETTO_NO_OCCURRENCE || refusal == LIBRETTO_NOT_FORWARD) {
-        const libretto_cue *cue = &cues[number];
+        size_t k = playing_at(number);
+        const libretto_cue *cue = &playing[k].cue;
         fprintf(stderr, ": ordinal %u of ", (unsigned)cue->ordinal);
         print_phrase(stderr, cue);
         if (refusal == LIBRETTO_NOT_FORWARD)
-            tell_not_forward(number);
+            tell_not_forward(k);
         else
             fprintf(stderr, ", total %u", (unsigned)list_refrain(cue));
     }
@@ -187,12 +217,13 @@ static int refuse(const char *text_path, const char *book_path, uint32_t refusal
 static void print_cues(void)
 {
     printf("cue  place   line  column  title\n");
-    for (size_t i = 0; i < cues_len; i++) {
-        const uint32_t *entry = entries + i * LIBRETTO_CUE_ENTRIES;
-        printf("%3u  %5u  %5u  %6u", (unsigned)i, (unsigned)entry[0], (unsigned)entry[1], (unsigned)entry[2]);
-        if (cues[i].title_len > 0)
+    for (size_t k = 0; k < playing_len; k++) {
+        const uint32_t *entry = entries + k * LIBRETTO_CUE_ENTRIES;
+        const libretto_cue *cue = &playing[k].cue;
+        printf("%3u  %5u  %5u  %6u", (unsigned)playing[k].index, (unsigned)entry[0], (unsigned)entry[1], (unsigned)entry[2]);
+        if (cue->title_len > 0)
             printf("  ");
-        print_letters(stdout, book + cues[i].title_start, cues[i].title_len);
+        print_letters(stdout, book + cue->title_start, cue->title_len);
         printf("\n");
     }
 }
@@ -203,11 +234,11 @@ static int same_phrase(const libretto_cue *one, const libretto_cue *other)
     return one->phrase_len == other->phrase_len && memcmp(folded_book + one->phrase_start, folded_book + other->phrase_start, one->phrase_len) == 0;
 }
 
-/* Whether no cue before this one has its folded phrase. */
-static int is_first(size_t index)
+/* Whether no playing cue before this one has its folded phrase. */
+static int is_first(size_t k)
 {
-    for (size_t i = 0; i < index; i++) {
-        if (same_phrase(&cues[i], &cues[index]))
+    for (size_t i = 0; i < k; i++) {
+        if (same_phrase(&playing[i].cue, &playing[k].cue))
             return 0;
     }
     return 1;
@@ -216,27 +247,34 @@ static int is_first(size_t index)
 static void print_refrains(void)
 {
     printf("total  phrase, and below it its places\n");
-    for (size_t i = 0; i < cues_len; i++) {
-        if (!is_first(i))
+    for (size_t k = 0; k < playing_len; k++) {
+        if (!is_first(k))
             continue;
-        uint32_t total = list_refrain(&cues[i]);
+        uint32_t total = list_refrain(&playing[k].cue);
         printf("%5u  ", (unsigned)total);
-        print_phrase(stdout, &cues[i]);
-        for (uint32_t k = 0; k < total; k++)
-            printf("%s%5u", k % PLACES_A_ROW == 0 ? "\n       " : "  ", (unsigned)list[k]);
+        print_phrase(stdout, &playing[k].cue);
+        for (uint32_t i = 0; i < total; i++)
+            printf("%s%5u", i % PLACES_A_ROW == 0 ? "\n       " : "  ", (unsigned)list[i]);
         printf("\n");
     }
 }
 
 int main(int argc, char **argv)
 {
-    int files = read_options(argc, argv);
+    int next = read_options(argc, argv);
+    uint32_t date[3];
 
-    if (files == 0 || argc != files + 2) {
-        fputs("usage: show [--page 1|15] [--bytes] TEXT BOOK\n", stderr);
+    if (next == 0 || argc != next + 3 || !read_date((const uint8_t *)argv[next], strlen(argv[next]), date)) {
+        fputs("usage: show [--page 1|15] [--bytes] DAY TEXT BOOK\n", stderr);
         return FAILED;
     }
-    const char *text_path = argv[files], *book_path = argv[files + 1];
+    libretto_answer told = libretto_day(date[0], date[1], date[2]);
+    if (told.refusal != LIBRETTO_OK) {
+        fprintf(stderr, "%s: the date is not in the calendar's 2000 to 2099\n", argv[next]);
+        return REFUSED;
+    }
+    day = told.number;
+    const char *text_path = argv[next + 1], *book_path = argv[next + 2];
     if (!read_file(text_path, text, TEXT_ROOM, &text_len) || !read_file(book_path, book, BOOK_ROOM, &book_len))
         return FAILED;
 

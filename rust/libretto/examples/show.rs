@@ -1,8 +1,8 @@
-//! Prints the show file of a libretto and a cue book: show [--page 1|15] [--bytes] TEXT BOOK
+//! Prints the show file of a libretto and a cue book for a day: show [--page 1|15] [--bytes] DAY TEXT BOOK
 //!
 //! It is `examples/show.c` over the safe interface and prints the same to the byte; what the show file holds is told there.
 
-use libretto::{find_all, fold_text, read_book, read_cue, resolve_all, CuePlace, Method, Page, Refusal, ResolveError};
+use libretto::{day, find_all, fold_text, read_book, read_cue, resolve_all, CuePlace, Date, Method, Page, Refusal, ResolveError};
 use std::env;
 use std::ffi::{OsStr, OsString};
 use std::fmt::Display;
@@ -17,7 +17,7 @@ const FAILED: u8 = 2;
 
 const PLACES_A_ROW: usize = 10;
 
-const USAGE: &str = "usage: show [--page 1|15] [--bytes] TEXT BOOK";
+const USAGE: &str = "usage: show [--page 1|15] [--bytes] DAY TEXT BOOK";
 
 /// The page of text and book, and whether letters are printed as the bytes that they are on it, instead of in UTF-8.
 #[derive(Clone, Copy)]
@@ -26,8 +26,9 @@ struct Options {
     as_bytes: bool,
 }
 
-/// A cue as it stands in the book, its bytes there, and its phrase folded.
+/// A cue that plays: its index in the book, what it is there and its bytes, and its phrase folded.
 struct Cue<'a> {
+    index: usize,
     read: libretto::Cue<'a>,
     bytes: &'a [u8],
     folded: Vec<u8>,
@@ -59,16 +60,18 @@ fn fold_all(page: Page, letters: &[u8]) -> Vec<u8> {
     folded
 }
 
-/// The cues of a book that the library has accepted as a whole.
-fn cues(page: Page, book: &[u8]) -> Vec<Cue<'_>> {
-    let mut cues = Vec::new();
-    let mut place = 0;
+/// The cues that play on a day, of a book that the library has accepted as a whole.
+fn playing(day: u32, page: Page, book: &[u8]) -> Vec<Cue<'_>> {
+    let mut playing = Vec::new();
+    let (mut index, mut place) = (0, 0);
     while place < book.len() {
         let read = read_cue(book, place).expect("the book was read before");
-        cues.push(Cue { read, bytes: &book[place..read.end], folded: fold_all(page, read.phrase) });
-        place = read.end;
+        if read.plays(day) {
+            playing.push(Cue { index, read, bytes: &book[place..read.end], folded: fold_all(page, read.phrase) });
+        }
+        (index, place) = (index + 1, read.end);
     }
-    cues
+    playing
 }
 
 /// All places of a cue's folded phrase in the folded text.
@@ -113,8 +116,8 @@ fn print_phrase(out: &mut impl Write, cue: &Cue, options: Options) -> io::Result
 
 fn print_cues(out: &mut impl Write, cues: &[Cue], places: &[CuePlace], options: Options) -> io::Result<()> {
     writeln!(out, "cue  place   line  column  title")?;
-    for (index, (cue, CuePlace { place, line, column })) in cues.iter().zip(places).enumerate() {
-        let title = cue.read.title;
+    for (cue, CuePlace { place, line, column }) in cues.iter().zip(places) {
+        let (index, title) = (cue.index, cue.read.title);
         write!(out, "{index:3}  {place:5}  {line:5}  {column:6}{}", if title.is_empty() { "" } else { "  " })?;
         print_letters(out, title, options)?;
         writeln!(out)?;
@@ -124,15 +127,15 @@ fn print_cues(out: &mut impl Write, cues: &[Cue], places: &[CuePlace], options: 
 
 fn print_refrains(out: &mut impl Write, cues: &[Cue], folded_text: &[u8], options: Options) -> io::Result<()> {
     writeln!(out, "total  phrase, and below it its places")?;
-    for (index, cue) in cues.iter().enumerate() {
-        if cues[..index].iter().any(|earlier| earlier.folded == cue.folded) {
+    for (k, cue) in cues.iter().enumerate() {
+        if cues[..k].iter().any(|earlier| earlier.folded == cue.folded) {
             continue;
         }
         let places = refrain(cue, folded_text);
         write!(out, "{:5}  ", places.len())?;
         print_phrase(out, cue, options)?;
-        for (k, place) in places.iter().enumerate() {
-            write!(out, "{}{place:5}", if k % PLACES_A_ROW == 0 { "\n       " } else { "  " })?;
+        for (i, place) in places.iter().enumerate() {
+            write!(out, "{}{place:5}", if i % PLACES_A_ROW == 0 { "\n       " } else { "  " })?;
         }
         writeln!(out)?;
     }
@@ -151,37 +154,39 @@ fn tell_missing(told: &mut Vec<u8>, cue: &Cue, folded_text: &[u8], options: Opti
     write!(told, ", total {}", refrain(cue, folded_text).len())
 }
 
-/// Tells where a cue stands that does not stand behind the one before it, and where that one does. Each by itself is resolved, since both have an
-/// occurrence.
-fn tell_not_forward(told: &mut Vec<u8>, cues: &[Cue], number: usize, text: &[u8], options: Options) -> io::Result<()> {
-    let alone = |cue: &Cue| {
-        let places = resolve_all(options.page, cue.bytes, text).expect("the cue was found before");
+/// Tells where a cue stands that does not stand behind the playing one before it, and where that one does. Each by itself is resolved, since both have
+/// an occurrence.
+fn tell_not_forward(told: &mut Vec<u8>, day: u32, [before, cue]: [&Cue; 2], text: &[u8], options: Options) -> io::Result<()> {
+    let [at_before, at] = [before, cue].map(|cue| {
+        let places = resolve_all(day, options.page, cue.bytes, text).expect("the cue was found before");
         places[0]
-    };
-    let (at, before) = (alone(&cues[number]), alone(&cues[number - 1]));
-    tell_occurrence(told, &cues[number], options)?;
-    write!(told, " is at line {}, column {}, cue {} at line {}, column {}", at.line, at.column, number - 1, before.line, before.column)
+    });
+    tell_occurrence(told, cue, options)?;
+    write!(told, " is at line {}, column {}, cue {} at line {}, column {}", at.line, at.column, before.index, at_before.line, at_before.column)
 }
 
-/// What the resolver refused, with all that can be told of it.
-fn refused(text_path: &Path, book_path: &Path, error: ResolveError, cues: &[Cue], text: &[u8], options: Options) -> Failure {
-    let mut failure = Failure::refused(if error.refusal == Refusal::LongText { text_path } else { book_path }, error);
-    let written = match (error.refusal, error.cue) {
-        (Refusal::NoOccurrence, Some(cue)) => tell_missing(&mut failure.told, &cues[cue], &fold_all(options.page, text), options),
-        (Refusal::NotForward, Some(cue)) => tell_not_forward(&mut failure.told, cues, cue, text, options),
-        _ => Ok(()),
+/// What the resolver refused of a cue that plays, with all that can be told of it.
+fn refused_cue(book_path: &Path, day: u32, error: ResolveError, cues: &[Cue], text: &[u8], options: Options) -> Failure {
+    let mut failure = Failure::refused(book_path, error);
+    let k = cues.iter().position(|cue| Some(cue.index) == error.cue).expect("the refused cue plays");
+    let written = match error.refusal {
+        Refusal::NoOccurrence => tell_missing(&mut failure.told, &cues[k], &fold_all(options.page, text), options),
+        _ => tell_not_forward(&mut failure.told, day, [&cues[k - 1], &cues[k]], text, options),
     };
     written.expect("a vector takes all that is written");
     failure
 }
 
-fn show(text_path: &Path, book_path: &Path, options: Options) -> Result<(), Failure> {
+fn show(day: u32, text_path: &Path, book_path: &Path, options: Options) -> Result<(), Failure> {
     let read = |path: &Path| fs::read(path).map_err(|error| Failure::failed(path.display(), &error));
     let (text, book) = (read(text_path)?, read(book_path)?);
 
     read_book(&book).map_err(|refused| Failure::refused(book_path, refused))?;
-    let cues = cues(options.page, &book);
-    let places = resolve_all(options.page, &book, &text).map_err(|error| refused(text_path, book_path, error, &cues, &text, options))?;
+    let cues = playing(day, options.page, &book);
+    let places = resolve_all(day, options.page, &book, &text).map_err(|error| match error.cue {
+        Some(_) => refused_cue(book_path, day, error, &cues, &text, options),
+        None => Failure::refused(text_path, error),
+    })?;
 
     let folded_text = fold_all(options.page, &text);
     let mut out = BufWriter::new(io::stdout().lock());
@@ -220,13 +225,35 @@ fn read_options(mut arguments: &[OsString]) -> Option<(Options, &[OsString])> {
     Some((Options { page: page.unwrap_or(Page::Latin1), as_bytes }, arguments))
 }
 
+/// Reads a date written as year-month-day; whether there is such a date is not tested. A number that has no room is above all years as well.
+fn read_date(argument: &OsStr) -> Option<Date> {
+    let number = |written: &str| {
+        let digits = !written.is_empty() && written.bytes().all(|byte| byte.is_ascii_digit());
+        digits.then(|| written.parse().unwrap_or(u32::MAX))
+    };
+    let numbers: Vec<u32> = argument.to_str()?.split('-').map(number).collect::<Option<_>>()?;
+    match numbers[..] {
+        [year, month, day] => Some(Date { year, month, day }),
+        _ => None,
+    }
+}
+
+/// The options, the date, and it, the text and the book as they were given; nothing if the call is wrong.
+fn read_call(arguments: &[OsString]) -> Option<(Options, Date, [&Path; 3])> {
+    let (options, [date, text, book]) = read_options(arguments)? else {
+        return None;
+    };
+    Some((options, read_date(date)?, [date, text, book].map(Path::new)))
+}
+
 fn main() -> ExitCode {
     let arguments: Vec<OsString> = env::args_os().skip(1).collect();
-    let Some((options, [text, book])) = read_options(&arguments) else {
+    let Some((options, date, [given, text, book])) = read_call(&arguments) else {
         eprintln!("{USAGE}");
         return ExitCode::from(FAILED);
     };
-    let Err(failure) = show(Path::new(text), Path::new(book), options) else {
+    let day = day(date).map_err(|_| Failure::refused(given, "the date is not in the calendar's 2000 to 2099"));
+    let Err(failure) = day.and_then(|day| show(day, text, book, options)) else {
         return ExitCode::SUCCESS;
     };
     // Where standard error fails too, the exit status alone is left to tell it.

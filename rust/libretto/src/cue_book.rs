@@ -13,8 +13,8 @@ pub const TITLE_MAX: usize = 200;
 /// The largest ordinal of a cue; the smallest is 1.
 pub const ORDINAL_MAX: u32 = 65_535;
 
-/// The longest cue, in bytes: 11 besides the longest phrase and the longest title.
-pub const CUE_MAX: usize = 1235;
+/// The longest cue, in bytes: 11 besides the longest phrase and the longest title, and 7 of dates.
+pub const CUE_MAX: usize = 1242;
 
 /// Why a book was refused, and at which cue.
 #[derive(Clone, Copy, Debug, PartialEq, Eq, Hash)]
@@ -53,11 +53,13 @@ pub enum Due {
     Ordinal = 2,
     /// The letters to show, 0 to 200 of them.
     Title = 3,
+    /// The first and the last day on which the cue plays, as two bytes each, high byte first. A cue may end without this field.
+    Dates = 4,
 }
 
 impl Due {
     /// All fields, in their order.
-    pub const ALL: [Due; 3] = [Due::Phrase, Due::Ordinal, Due::Title];
+    pub const ALL: [Due; 4] = [Due::Phrase, Due::Ordinal, Due::Title, Due::Dates];
 
     /// The field's tag.
     ///
@@ -92,6 +94,27 @@ pub struct RawField {
     pub end: usize,
 }
 
+/// The days on which a cue plays, by the numbers that [`day`](crate::day) gives.
+#[derive(Clone, Copy, Debug, PartialEq, Eq, Hash)]
+pub struct Days {
+    /// The first of them.
+    pub first: u32,
+    /// The last of them, which is included.
+    pub last: u32,
+}
+
+impl Days {
+    /// Whether this day is among them.
+    ///
+    /// ```
+    /// let march = libretto::Days { first: 9556, last: 9586 };
+    /// assert_eq!([9555, 9556, 9586, 9587].map(|day| march.contains(day)), [false, true, true, false]);
+    /// ```
+    pub const fn contains(self, day: u32) -> bool {
+        self.first <= day && day <= self.last
+    }
+}
+
 /// A cue of a book.
 #[derive(Clone, Copy, Debug, PartialEq, Eq, Hash)]
 pub struct Cue<'a> {
@@ -101,8 +124,23 @@ pub struct Cue<'a> {
     pub ordinal: u16,
     /// The title, as the part of the book where it stands.
     pub title: &'a [u8],
-    /// The place after the cue.
+    /// The days on which the cue plays; a cue without them plays always.
+    pub days: Option<Days>,
+    /// The place after the cue, its dates included.
     pub end: usize,
+}
+
+impl Cue<'_> {
+    /// Whether the cue plays on this day, and has entries where the book is resolved for it.
+    ///
+    /// ```
+    /// let cue = libretto::read_cue(b"\x01\x00\x02la\x02\x00\x02\x00\x02\x03\x00\x02No\x04\x00\x04\x00\x07\x00\x09", 0)?;
+    /// assert_eq!([6, 7, 9, 10].map(|day| cue.plays(day)), [false, true, true, false]);
+    /// # Ok::<(), libretto::Refusal>(())
+    /// ```
+    pub fn plays(&self, day: u32) -> bool {
+        self.days.is_none_or(|days| days.contains(day))
+    }
 }
 
 /// A cue of a book, as it stands in the C interface.
@@ -113,6 +151,12 @@ pub struct RawCue {
     pub refusal: u32,
     /// The ordinal; 0 if the cue was refused.
     pub ordinal: u32,
+    /// 1 if the cue has dates; 0 if it has none or was refused.
+    pub dated: u32,
+    /// The first day of its dates; 0 without them.
+    pub first: u32,
+    /// The last day of its dates; 0 without them.
+    pub last: u32,
     /// The index of the phrase's first byte; 0 if the cue was refused.
     pub phrase_start: usize,
     /// The number of the phrase's bytes; 0 if the cue was refused.
@@ -121,7 +165,7 @@ pub struct RawCue {
     pub title_start: usize,
     /// The number of the title's bytes; 0 if the cue was refused.
     pub title_len: usize,
-    /// The place after the cue; 0 if the cue was refused.
+    /// The place after the cue, its dates included; 0 if the cue was refused.
     pub end: usize,
 }
 
@@ -153,21 +197,24 @@ pub fn read_field(book: &[u8], place: usize, due: Due) -> Result<Field<'_>, Refu
 /// ```
 /// let raw = libretto::read_field_raw(b"\x03\x00\x02No", 0, 3);
 /// assert_eq!((raw.refusal, raw.start, raw.len, raw.end), (0, 3, 2, 5));
-/// assert_eq!(libretto::read_field_raw(b"\x04\x00\x02No", 0, 4).refusal, 8);
+/// assert_eq!(libretto::read_field_raw(b"\x04\x00\x04\x00\x07\x00\x06", 0, 4).refusal, 16);
+/// assert_eq!(libretto::read_field_raw(b"\x05\x00\x02No", 0, 5).refusal, 8);
 /// ```
 pub fn read_field_raw(book: &[u8], place: usize, due: u32) -> RawField {
     ffi::read_field(book, place, due)
 }
 
-/// Reads the cue at a place of a book. A place at or past the book's end meets [`Refusal::CutField`]. That a book has at most 999 cues is tested
-/// where a whole book is read, as by [`read_book`].
+/// Reads the cue at a place of a book. A byte 4 behind its title is the tag of its dates; any other starts the next cue. A place at or past the book's end
+/// meets [`Refusal::CutField`]. That a book has at most 999 cues is tested where a whole book is read, as by [`read_book`].
 ///
 /// ```
-/// use libretto::{read_cue, Cue, Refusal};
+/// use libretto::{read_cue, Cue, Days, Refusal};
 ///
-/// let book = b"\x01\x00\x02la\x02\x00\x02\x00\x02\x03\x00\x02No";
-/// assert_eq!(read_cue(book, 0), Ok(Cue { phrase: b"la", ordinal: 2, title: b"No", end: 15 }));
-/// assert_eq!(read_cue(book, 15), Err(Refusal::CutField));
+/// let book = b"\x01\x00\x02la\x02\x00\x02\x00\x02\x03\x00\x02No\x04\x00\x04\x25\x54\x25\x72";
+/// let days = Some(Days { first: 9556, last: 9586 });
+/// assert_eq!(read_cue(book, 0), Ok(Cue { phrase: b"la", ordinal: 2, title: b"No", days, end: 22 }));
+/// assert_eq!(read_cue(&book[..15], 0), Ok(Cue { phrase: b"la", ordinal: 2, title: b"No", days: None, end: 15 }));
+/// assert_eq!(read_cue(book, 22), Err(Refusal::CutField));
 /// assert_eq!(read_cue(book, 5), Err(Refusal::WrongTag));
 /// ```
 pub fn read_cue(book: &[u8], place: usize) -> Result<Cue<'_>, Refusal> {
@@ -177,6 +224,7 @@ pub fn read_cue(book: &[u8], place: usize) -> Result<Cue<'_>, Refusal> {
         phrase: part(book, raw.phrase_start, raw.phrase_len),
         ordinal: u16::try_from(raw.ordinal).expect("an ordinal has two bytes"),
         title: part(book, raw.title_start, raw.title_len),
+        days: (raw.dated != 0).then_some(Days { first: raw.first, last: raw.last }),
         end: raw.end,
     })
 }
@@ -185,14 +233,14 @@ pub fn read_cue(book: &[u8], place: usize) -> Result<Cue<'_>, Refusal> {
 ///
 /// ```
 /// let raw = libretto::read_cue_raw(b"\x01\x00\x02la\x02\x00\x02\x00\x02\x03\x00\x02No", 0);
-/// assert_eq!((raw.refusal, raw.ordinal, raw.end), (0, 2, 15));
+/// assert_eq!((raw.refusal, raw.ordinal, raw.dated, raw.first, raw.last, raw.end), (0, 2, 0, 0, 0, 15));
 /// assert_eq!((raw.phrase_start, raw.phrase_len, raw.title_start, raw.title_len), (3, 2, 13, 2));
 /// ```
 pub fn read_cue_raw(book: &[u8], place: usize) -> RawCue {
     ffi::read_cue(book, place)
 }
 
-/// Reads a whole book and gives its number of cues.
+/// Reads a whole book and gives its number of cues, whenever they play.
 ///
 /// ```
 /// use libretto::{read_book, BookError, Refusal};
@@ -250,42 +298,53 @@ pub fn title_raw(book: &[u8], cue: u32) -> RawPart {
     ffi::title(book, cue)
 }
 
-/// Writes a cue at the buffer's start and gives its length; the buffer's bytes past it keep their values. A refused call leaves the buffer as it was.
+/// Writes a cue at the buffer's start, with its days if it has them, and gives its length; the buffer's bytes past it keep their values. A refused call
+/// leaves the buffer as it was. The days are tested first of all.
 ///
 /// ```
-/// use libretto::{read_book, write_cue, Refusal, CUE_MAX};
+/// use libretto::{read_book, write_cue, Days, Refusal, CUE_MAX};
 ///
 /// // A book is its cues, one after the other.
 /// let mut book = [0; 2 * CUE_MAX];
-/// let first = write_cue(&mut book, b"la", 2, b"No")?;
-/// let second = write_cue(&mut book[first..], b"tralala", 1, b"")?;
+/// let first = write_cue(&mut book, b"la", 2, b"No", None)?;
+/// let second = write_cue(&mut book[first..], b"tralala", 1, b"", Some(Days { first: 9556, last: 9586 }))?;
 /// assert_eq!(read_book(&book[..first + second]), Ok(2));
 ///
-/// assert_eq!(write_cue(&mut book, b"la", 0, b"No"), Err(Refusal::BadField));
-/// assert_eq!(write_cue(&mut book[..14], b"la", 2, b"No"), Err(Refusal::LongCue));
+/// assert_eq!(write_cue(&mut book, b"la", 0, b"No", None), Err(Refusal::BadField));
+/// assert_eq!(write_cue(&mut book[..14], b"la", 2, b"No", None), Err(Refusal::LongCue));
+/// assert_eq!(write_cue(&mut book, b"la", 0, b"No", Some(Days { first: 9586, last: 9556 })), Err(Refusal::BadDate));
 /// # Ok::<(), Refusal>(())
 /// ```
-pub fn write_cue(buffer: &mut [u8], phrase: &[u8], ordinal: u32, title: &[u8]) -> Result<usize, Refusal> {
-    let raw = write_cue_raw(buffer, phrase, ordinal, title);
+pub fn write_cue(buffer: &mut [u8], phrase: &[u8], ordinal: u32, title: &[u8], days: Option<Days>) -> Result<usize, Refusal> {
+    let (dated, Days { first, last }) = days.map_or((0, Days { first: 0, last: 0 }), |days| (1, days));
+    let raw = write_cue_raw(buffer, phrase, ordinal, title, dated, first, last);
     Refusal::check(raw.refusal)?;
     Ok(raw.number as usize)
 }
 
-/// [`write_cue`] with the refusal's number in place of a [`Refusal`]. The answer's number is the cue's length, and 0 if the call was refused.
+/// [`write_cue`] with three numbers for the days, and with the refusal's number in place of a [`Refusal`]. With 0 as `dated` the cue has no dates, and
+/// `first` and `last` play no part; with any other number they are its days. The answer's number is the cue's length, and 0 if the call was refused.
 ///
 /// ```
-/// let raw = libretto::write_cue_raw(&mut [], b"", 2, b"No");
+/// let raw = libretto::write_cue_raw(&mut [], b"", 2, b"No", 0, 9586, 9556);
 /// assert_eq!((raw.refusal, raw.number), (2, 0));
+/// let raw = libretto::write_cue_raw(&mut [], b"", 2, b"No", 1, 9586, 9556);
+/// assert_eq!((raw.refusal, raw.number), (16, 0));
 /// ```
-pub fn write_cue_raw(buffer: &mut [u8], phrase: &[u8], ordinal: u32, title: &[u8]) -> RawAnswer {
-    ffi::write_cue(buffer, phrase, ordinal, title)
+pub fn write_cue_raw(buffer: &mut [u8], phrase: &[u8], ordinal: u32, title: &[u8], dated: u32, first: u32, last: u32) -> RawAnswer {
+    ffi::write_cue(buffer, phrase, ordinal, title, dated, first, last)
 }
 
 #[cfg(test)]
 mod tests {
     use super::*;
+    use crate::DAY_MAX;
 
     const BOOK: &[u8] = b"\x01\x00\x02la\x02\x00\x02\x00\x02\x03\x00\x02No\x01\x00\x01x\x02\x00\x02\x00\x01\x03\x00\x00";
+
+    /// The days that the field below has.
+    const DAYS: Days = Days { first: 0x0102, last: 0x8e00 };
+    const DATES: &[u8] = b"\x04\x00\x04\x01\x02\x8e\x00";
 
     #[test]
     fn titles_are_parts_of_the_book() {
@@ -307,12 +366,41 @@ mod tests {
             assert!(read_cue(BOOK, place).is_err(), "place {place}");
         }
         let mut end = 0;
-        for (due, body) in Due::ALL.into_iter().zip([3, 8, 13]) {
+        for (due, body) in [Due::Phrase, Due::Ordinal, Due::Title].into_iter().zip([3, 8, 13]) {
             let field = read_field(BOOK, end, due).unwrap();
             assert_eq!((field.body.as_ptr(), field.body.len()), (BOOK[body..].as_ptr(), 2), "{due:?}");
             end = field.end;
         }
         assert_eq!(end, 15);
+    }
+
+    #[test]
+    fn dates_belong_to_the_cue_before_them() {
+        // The dates stand behind the first title, and then behind the second one, at the book's end.
+        let dated = [&BOOK[..15], DATES, &BOOK[15..], DATES].concat();
+        let first = read_cue(&dated, 0).unwrap();
+        assert_eq!((first.title, first.days, first.end), (&b"No"[..], Some(DAYS), 22));
+        let second = read_cue(&dated, first.end).unwrap();
+        assert_eq!((second.title, second.days, second.end), (&b""[..], Some(DAYS), dated.len()));
+        let field = read_field(&dated, 15, Due::Dates).unwrap();
+        assert_eq!((field.body, field.end), (&DATES[3..], 22));
+        assert_eq!((read_book(&dated), title(&dated, 0)), (Ok(2), &b"No"[..]));
+        assert_eq!(read_cue(BOOK, 0).map(|cue| cue.days), Ok(None));
+
+        // A day above the last one, 0x8eac.
+        let late = [&BOOK[..15], b"\x04\x00\x04\x01\x02\x8e\xad", &BOOK[15..]].concat();
+        assert_eq!((read_cue(&late, 0), read_field(&late, 15, Due::Dates)), (Err(Refusal::BadDate), Err(Refusal::BadDate)));
+        let refused = read_book(&[BOOK, &late].concat()).unwrap_err();
+        assert_eq!(refused, BookError { refusal: Refusal::BadDate, cue: 2 });
+        assert_eq!(refused.to_string(), "cue 2: a date is not in the calendar's 2000 to 2099, or the first day is after the last");
+    }
+
+    #[test]
+    fn cues_without_days_play_always() {
+        let cue = read_cue(BOOK, 0).unwrap();
+        assert!([0, DAY_MAX, u32::MAX].iter().all(|&day| cue.plays(day)));
+        let dated = Cue { days: Some(DAYS), ..cue };
+        assert_eq!([0x0101, 0x0102, 0x8e00, 0x8e01].map(|day| dated.plays(day)), [false, true, true, false]);
     }
 
     #[test]
@@ -328,8 +416,21 @@ mod tests {
     fn the_longest_cue() {
         let mut book = [0; CUE_MAX];
         let (phrase, shown) = ([b'a'; crate::PHRASE_MAX], [b'b'; TITLE_MAX]);
-        assert_eq!(write_cue(&mut book, &phrase, ORDINAL_MAX, &shown), Ok(CUE_MAX));
-        assert_eq!(title(&book, 0), shown);
-        assert_eq!(write_cue(&mut book, &phrase, ORDINAL_MAX + 1, &shown), Err(Refusal::BadField));
+        let days = Some(Days { first: 0, last: DAY_MAX });
+        assert_eq!(write_cue(&mut book, &phrase, ORDINAL_MAX, &shown, days), Ok(CUE_MAX));
+        assert_eq!((title(&book, 0), read_cue(&book, 0).map(|cue| cue.days)), (&shown[..], Ok(days)));
+        assert_eq!(write_cue(&mut book, &phrase, ORDINAL_MAX, &shown, None), Ok(CUE_MAX - DATES.len()));
+        assert_eq!(write_cue(&mut book, &phrase, ORDINAL_MAX + 1, &shown, days), Err(Refusal::BadField));
+    }
+
+    #[test]
+    fn days_to_be_written() {
+        let mut book = [7; 22];
+        assert_eq!(write_cue(&mut book, b"la", 2, b"No", Some(DAYS)), Ok(22));
+        assert_eq!(book, *[&BOOK[..15], DATES].concat());
+        assert_eq!(write_cue(&mut book[..21], b"la", 2, b"No", Some(DAYS)), Err(Refusal::LongCue));
+        for (first, last) in [(0, DAY_MAX + 1), (DAY_MAX + 1, DAY_MAX + 1), (1, 0), (u32::MAX, 0), (1 << 16, 1 << 16)] {
+            assert_eq!(write_cue(&mut [], b"", 0, b"", Some(Days { first, last })), Err(Refusal::BadDate), "{first} to {last}");
+        }
     }
 }

@@ -1,6 +1,6 @@
 //! The C interface of the library, and the only unsafe code of this crate: one declaration and one call for each function.
 
-use crate::{RawAnswer, RawCue, RawField, RawFinding, RawFolding, RawMovesFinding, RawPart, RawResolving, ResolverMemory};
+use crate::{RawAnswer, RawCue, RawDate, RawField, RawFinding, RawFolding, RawMovesFinding, RawPart, RawResolving, ResolverMemory};
 
 extern "C" {
     fn libretto_find(
@@ -47,6 +47,10 @@ extern "C" {
 
     fn libretto_fold_text(page: u32, text: *const u8, text_len: usize, target: *mut u8, target_len: usize) -> RawFolding;
 
+    fn libretto_day(year: u32, month: u32, day: u32) -> RawAnswer;
+
+    fn libretto_date(day: u32) -> RawDate;
+
     fn libretto_read_field(book: *const u8, book_len: usize, place: usize, due: u32) -> RawField;
 
     fn libretto_read_cue(book: *const u8, book_len: usize, place: usize) -> RawCue;
@@ -63,9 +67,13 @@ extern "C" {
         ordinal: u32,
         title: *const u8,
         title_len: usize,
+        dated: u32,
+        first: u32,
+        last: u32,
     ) -> RawAnswer;
 
     fn libretto_resolve(
+        day: u32,
         page: u32,
         book: *const u8,
         book_len: usize,
@@ -158,6 +166,18 @@ pub(crate) fn fold_text(page: u32, text: &[u8], target: &mut [u8]) -> RawFolding
     unsafe { libretto_fold_text(page, text.as_ptr(), text.len(), target.as_mut_ptr(), target.len()) }
 }
 
+/// Calls `libretto_day`.
+pub(crate) fn day(year: u32, month: u32, day: u32) -> RawAnswer {
+    // SAFETY: the function takes three numbers and accepts all of them. `RawAnswer` has the layout of the C structure (`repr(C)`, two `u32`).
+    unsafe { libretto_day(year, month, day) }
+}
+
+/// Calls `libretto_date`.
+pub(crate) fn date(day: u32) -> RawDate {
+    // SAFETY: the function takes a number and accepts every one. `RawDate` has the layout of the C structure (`repr(C)`, four `u32`).
+    unsafe { libretto_date(day) }
+}
+
 /// Calls `libretto_read_field` on a slice.
 pub(crate) fn read_field(book: &[u8], place: usize, due: u32) -> RawField {
     // SAFETY: as for `read_book`; the library accepts any place and any number as well. `RawField` has the layout of the C structure (`repr(C)`, a
@@ -167,7 +187,7 @@ pub(crate) fn read_field(book: &[u8], place: usize, due: u32) -> RawField {
 
 /// Calls `libretto_read_cue` on a slice.
 pub(crate) fn read_cue(book: &[u8], place: usize) -> RawCue {
-    // SAFETY: as for `read_book`; the library accepts any place as well. `RawCue` has the layout of the C structure (`repr(C)`, two `u32` and five
+    // SAFETY: as for `read_book`; the library accepts any place as well. `RawCue` has the layout of the C structure (`repr(C)`, five `u32` and five
     // `usize`, which is `size_t`).
     unsafe { libretto_read_cue(book.as_ptr(), book.len(), place) }
 }
@@ -188,22 +208,25 @@ pub(crate) fn title(book: &[u8], cue: u32) -> RawPart {
 }
 
 /// Calls `libretto_write_cue` on slices.
-pub(crate) fn write_cue(buffer: &mut [u8], phrase: &[u8], ordinal: u32, title: &[u8]) -> RawAnswer {
+pub(crate) fn write_cue(buffer: &mut [u8], phrase: &[u8], ordinal: u32, title: &[u8], dated: u32, first: u32, last: u32) -> RawAnswer {
     // SAFETY: each pointer comes from a slice and stands beside that slice's own length, so it is not null (also where the slice is empty) and valid
     // for as many bytes: for reading with phrase and title, for reading and writing with the buffer. The exclusive borrow keeps the buffer apart
-    // from both, and all three borrows outlive the call, which keeps no pointer. The library accepts any ordinal and any lengths. `RawAnswer` has
-    // the layout of the C structure (`repr(C)`, two `u32`).
-    unsafe { libretto_write_cue(buffer.as_mut_ptr(), buffer.len(), phrase.as_ptr(), phrase.len(), ordinal, title.as_ptr(), title.len()) }
+    // from both, and all three borrows outlive the call, which keeps no pointer. The library accepts any ordinal, any days and any lengths.
+    // `RawAnswer` has the layout of the C structure (`repr(C)`, two `u32`).
+    unsafe {
+        libretto_write_cue(buffer.as_mut_ptr(), buffer.len(), phrase.as_ptr(), phrase.len(), ordinal, title.as_ptr(), title.len(), dated, first, last)
+    }
 }
 
 /// Calls `libretto_resolve` on slices.
-pub(crate) fn resolve(page: u32, book: &[u8], text: &[u8], memory: &mut ResolverMemory<'_>) -> RawResolving {
+pub(crate) fn resolve(day: u32, page: u32, book: &[u8], text: &[u8], memory: &mut ResolverMemory<'_>) -> RawResolving {
     // SAFETY: each pointer comes from a slice and stands beside that slice's own length, so it is aligned, not null (also where the slice is
     // empty), and valid for as many entries: for reading with book and text, for reading and writing with the three slices of the memory. The
     // exclusive borrows keep those three apart from each other and from book and text, and all five borrows outlive the call, which keeps no pointer.
-    // The library accepts any page number, any bytes and any lengths. `RawResolving` has the layout of the C structure (`repr(C)`, three `u32`).
+    // The library accepts any day, any page number, any bytes and any lengths. `RawResolving` has the layout of the C structure (`repr(C)`, three `u32`).
     unsafe {
         libretto_resolve(
+            day,
             page,
             book.as_ptr(),
             book.len(),

@@ -6,9 +6,11 @@
 //! ISO 8859-15. [`find_moves`] also lists by which rule the window of FJS moved. [`relist`] makes a phrase's list for a text in which a stretch is
 //! replaced from its list for the old one.
 //!
-//! A cue book is 0 to 999 cues, each with a phrase, an ordinal and a title: [`write_cue`] writes one, [`read_cue`] reads one, [`read_book`] tests a
-//! whole book, and [`title`] shows a title where it stands. [`resolve`] finds the place, line and column of each cue in a text, in lent memory too,
-//! and reads the text once for each group of cues; the cues must run forward through the text. [`resolve_all`] lends the memory itself.
+//! A cue book is 0 to 999 cues, each with a phrase, an ordinal and a title, and some with the [`Days`] on which they play, as those of a second cast:
+//! [`write_cue`] writes one, [`read_cue`] reads one, [`read_book`] tests a whole book, and [`title`] shows a title where it stands. [`resolve`] finds the
+//! place, line and column of each cue that plays on a day in a text, in lent memory too, and reads the text once for each group of cues; the cues must
+//! run forward through the text. [`resolve_all`] lends the memory itself. A day is a number: [`day`] gives that of a [`Date`], and [`date`] gives the
+//! date back.
 //!
 //! ```
 //! use libretto::{find, find_all, Finding, Method, Refusal};
@@ -31,6 +33,7 @@
 #![deny(unsafe_code)]
 #![deny(missing_docs)]
 
+mod calendar;
 mod cue_book;
 #[allow(unsafe_code)]
 mod ffi;
@@ -41,8 +44,9 @@ mod moves;
 mod refusal;
 mod resolver;
 
+pub use calendar::{date, date_raw, day, day_raw, Date, RawDate, DAY_MAX};
 pub use cue_book::{read_book, read_book_raw, read_cue, read_cue_raw, read_field, read_field_raw, title, title_raw, write_cue, write_cue_raw};
-pub use cue_book::{BookError, Cue, Due, Field, RawCue, RawField, RawPart, CUES_MAX, CUE_MAX, ORDINAL_MAX, TITLE_MAX};
+pub use cue_book::{BookError, Cue, Days, Due, Field, RawCue, RawField, RawPart, CUES_MAX, CUE_MAX, ORDINAL_MAX, TITLE_MAX};
 pub use find::{find, find_all, find_raw, Finding, Method, RawFinding};
 pub use fold::{fold, fold_raw, fold_text, fold_text_raw, Page, RawFolding};
 pub use late_cuts::{relist, relist_all, relist_raw};

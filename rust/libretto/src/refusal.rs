@@ -3,9 +3,9 @@
 use std::error::Error;
 use std::fmt;
 
-/// Why a call was refused. The library tests in the order of the numbers, and the first that applies is returned; only 7 to 9 come as a book is
-/// read, [`resolve`](crate::resolve) tests the page (14) after 5 and before 6, and 12 and 15 cue by cue, and [`relist`](crate::relist) tests the new
-/// text's length last.
+/// Why a call was refused. The library tests in the order of the numbers, and the first that applies is returned; only 7 to 9 and a cue's own days (16)
+/// come as a book is read, a date or days that a call is given (16) are tested first of all, [`resolve`](crate::resolve) tests the page (14) after 5 and
+/// before 6, and 12 and 15 cue by cue, and [`relist`](crate::relist) tests the new text's length last.
 #[derive(Clone, Copy, Debug, PartialEq, Eq, Hash)]
 #[repr(u32)]
 pub enum Refusal {
@@ -29,7 +29,7 @@ pub enum Refusal {
     BadField = 9,
     /// Bytes remain after 999 cues.
     LongBook = 10,
-    /// The cue entries are fewer than 3 for each cue.
+    /// The cue entries are fewer than 3 for each cue that plays.
     ShortEntries = 11,
     /// A cue's occurrence does not exist.
     NoOccurrence = 12,
@@ -39,6 +39,8 @@ pub enum Refusal {
     UnknownPage = 14,
     /// A cue's place is not above that of the cue before it.
     NotForward = 15,
+    /// A day is above 36,524, a first day is after the last, or a date is not in the calendar's 2000 to 2099.
+    BadDate = 16,
     /// A stretch ends before it starts, or past the text.
     BadStretch = 17,
     /// A list does not strictly rise, or holds a place where the phrase would pass the text's end.
@@ -75,6 +77,7 @@ impl Refusal {
             13 => Some(Refusal::LongCue),
             14 => Some(Refusal::UnknownPage),
             15 => Some(Refusal::NotForward),
+            16 => Some(Refusal::BadDate),
             17 => Some(Refusal::BadStretch),
             18 => Some(Refusal::BadList),
             _ => None,
@@ -103,11 +106,12 @@ impl fmt::Display for Refusal {
             Refusal::WrongTag => "a field's tag is not the one due",
             Refusal::BadField => "a field's length is not allowed, or the ordinal is not from 1 to 65,535",
             Refusal::LongBook => "bytes remain after 999 cues",
-            Refusal::ShortEntries => "the cue entries are fewer than 3 for each cue",
+            Refusal::ShortEntries => "the cue entries are fewer than 3 for each cue that plays",
             Refusal::NoOccurrence => "the cue's occurrence does not exist",
             Refusal::LongCue => "the cue to be written is longer than its buffer",
             Refusal::UnknownPage => "the page is neither 1 nor 15",
             Refusal::NotForward => "the cue does not stand behind the cue before it",
+            Refusal::BadDate => "a date is not in the calendar's 2000 to 2099, or the first day is after the last",
             Refusal::BadStretch => "the stretch ends before it starts, or past the text",
             Refusal::BadList => "the list does not strictly rise, or holds a place where the phrase would pass the text's end",
         })
@@ -122,7 +126,7 @@ impl Error for Refusal {}
 pub struct RawAnswer {
     /// The refusal's number; 0 if the call was not refused.
     pub refusal: u32,
-    /// A total of places, a number of cues or of bytes, a cue's index, or a letter; each function names it.
+    /// A total of places, a number of cues or of bytes, a cue's index, a letter, or a day; each function names it.
     pub number: u32,
 }
 
@@ -132,12 +136,12 @@ mod tests {
 
     #[test]
     fn refusals_have_their_numbers_and_sentences() {
-        for number in (1..=15).chain(17..=18) {
+        for number in 1..=18 {
             let refusal = Refusal::from_number(number).unwrap();
             assert_eq!(refusal.number(), number);
             assert!(!refusal.to_string().is_empty());
         }
-        for number in [0, 16, 19, u32::MAX] {
+        for number in [0, 19, u32::MAX] {
             assert_eq!(Refusal::from_number(number), None);
         }
         assert_eq!(Refusal::UnknownPage.to_string(), "the page is neither 1 nor 15");
