@@ -1,5 +1,6 @@
-//! Document 01, "Cue book, folding, lines": the cue book, and "What a refused call hands back", rows 2, 3, 7 to 10 and 13.
+//! Document 01, "Cue book, folding, lines": the cue book, and "What a refused call hands back", rows 2, 3, 7 to 10 and 13. Document 02 (viii): the dates.
 
+use crate::calendar::are_refused;
 use std::ops::Range;
 
 /// The fields of a cue, in their order.
@@ -8,6 +9,7 @@ pub enum Field {
     Phrase,
     Ordinal,
     Title,
+    Dates,
 }
 
 /// A cue of a book. Phrase and title are told by the parts of the book where they stand.
@@ -16,6 +18,18 @@ pub struct Cue {
     pub phrase: Range<usize>,
     pub ordinal: u32,
     pub title: Range<usize>,
+    /// The first and the last day, both included; without them it plays always.
+    pub days: Option<(u32, u32)>,
+}
+
+/// The number that two bytes write, high byte first.
+fn number(bytes: &[u8]) -> u32 {
+    256 * bytes[0] as u32 + bytes[1] as u32
+}
+
+/// The two days of a body of four bytes.
+fn days_of(body: &[u8]) -> (u32, u32) {
+    (number(&body[..2]), number(&body[2..]))
 }
 
 /// The body's part of the book with the place after the field, or the refusal's number.
@@ -24,6 +38,7 @@ pub fn read_field(book: &[u8], place: usize, due: Field) -> Result<(Range<usize>
         Field::Phrase => (0x01, 1..=1024),
         Field::Ordinal => (0x02, 2..=2),
         Field::Title => (0x03, 0..=200),
+        Field::Dates => (0x04, 4..=4),
     };
     // Three header bytes present; a place past the book's end meets 7.
     let Some(&[tag, high, low, ..]) = book.get(place..) else {
@@ -43,6 +58,13 @@ pub fn read_field(book: &[u8], place: usize, due: Field) -> Result<(Range<usize>
     if due == Field::Ordinal && book[start..after] == [0, 0] {
         return Err(9);
     }
+    // Refusal 16 is tested where ordinal 0 is.
+    if due == Field::Dates {
+        let (first, last) = days_of(&book[start..after]);
+        if are_refused(first, last) {
+            return Err(16);
+        }
+    }
     Ok((start..after, after))
 }
 
@@ -52,6 +74,7 @@ pub fn read_due(book: &[u8], place: usize, due: u32) -> Result<(Range<usize>, us
         0x01 => read_field(book, place, Field::Phrase),
         0x02 => read_field(book, place, Field::Ordinal),
         0x03 => read_field(book, place, Field::Title),
+        0x04 => read_field(book, place, Field::Dates),
         _ if place > book.len() || book.len() - place < 3 => Err(7),
         _ => Err(8),
     }
@@ -62,9 +85,13 @@ pub fn read_cue(book: &[u8], place: usize) -> Result<(Cue, usize), u32> {
     let (phrase, place) = read_field(book, place, Field::Phrase)?;
     let (ordinal, place) = read_field(book, place, Field::Ordinal)?;
     let (title, place) = read_field(book, place, Field::Title)?;
-    // The ordinal's high byte comes first.
-    let ordinal = 256 * book[ordinal.start] as u32 + book[ordinal.start + 1] as u32;
-    Ok((Cue { phrase, ordinal, title }, place))
+    let ordinal = number(&book[ordinal]);
+    // A byte 0x04 after a title is that cue's, any other starts the next.
+    if book.get(place) != Some(&0x04) {
+        return Ok((Cue { phrase, ordinal, title, days: None }, place));
+    }
+    let (dates, place) = read_field(book, place, Field::Dates)?;
+    Ok((Cue { phrase, ordinal, title, days: Some(days_of(&book[dates])) }, place))
 }
 
 /// All cues of a book, or the refusal's number with the cue's index from 0.
@@ -100,8 +127,12 @@ pub fn title(book: &[u8], cue: u32) -> (usize, usize) {
     }
 }
 
-/// Puts a cue at the buffer's start: 0 and its length, or the refusal's number and 0. A refused call writes nothing.
-pub fn write_cue(buffer: &mut [u8], phrase: &[u8], ordinal: u32, title: &[u8]) -> (u32, u32) {
+/// Puts a cue at the buffer's start, with its days if it has them: 0 and its length, or the refusal's number and 0. A refused call writes nothing.
+pub fn write_cue(buffer: &mut [u8], phrase: &[u8], ordinal: u32, title: &[u8], days: Option<(u32, u32)>) -> (u32, u32) {
+    // The days are this call's own date, and 16 is tested first of all for them.
+    if days.is_some_and(|(first, last)| are_refused(first, last)) {
+        return (16, 0);
+    }
     if phrase.is_empty() {
         return (2, 0);
     }
@@ -112,10 +143,17 @@ pub fn write_cue(buffer: &mut [u8], phrase: &[u8], ordinal: u32, title: &[u8]) -
         return (9, 0);
     }
     let mut cue = Vec::new();
-    let ordinal = [(ordinal / 256) as u8, (ordinal % 256) as u8];
-    for (tag, body) in [(0x01, phrase), (0x02, &ordinal), (0x03, title)] {
-        cue.extend([tag, (body.len() / 256) as u8, (body.len() % 256) as u8]);
+    let high_byte_first = |number: u32| [(number / 256) as u8, (number % 256) as u8];
+    let mut put = |tag: u8, body: &[u8]| {
+        cue.push(tag);
+        cue.extend(high_byte_first(body.len() as u32));
         cue.extend(body);
+    };
+    put(0x01, phrase);
+    put(0x02, &high_byte_first(ordinal));
+    put(0x03, title);
+    if let Some((first, last)) = days {
+        put(0x04, &[high_byte_first(first), high_byte_first(last)].concat());
     }
     if cue.len() > buffer.len() {
         return (13, 0);

@@ -1,5 +1,5 @@
 //! Document 01, "Cue book, folding, lines": the resolver, and "What a refused call hands back", rows 4 to 12. Document 02 (i): the line rule;
-//! (iv): the page; (vi): the groups, the reads, and one scratch; (vii): the cues run forward.
+//! (iv): the page; (vi): the groups, the reads, and one scratch; (vii): the cues run forward; (viii): the day, and the cues that play.
 
 use crate::{cues, fold, Cue};
 use std::ops::Range;
@@ -10,12 +10,14 @@ const SCRATCH: usize = 65_535;
 /// A page's rule for a letter.
 type Rule = fn(u8) -> u8;
 
-/// 0, the number of cues and the reads, or the refusal's number with a cue's index and the reads; and what the lent memory holds afterwards.
-pub fn resolve(page: u32, book: &[u8], text: &[u8], copy: &mut [u8], scratch: &mut [u16], entries: &mut [u32]) -> (u32, u32, u32) {
-    let (rule, cues) = match accepted(page, book, text.len(), copy.len(), scratch.len(), entries.len()) {
+/// 0, the number of the playing cues and the reads, or the refusal's number with a cue's index and the reads; and what the lent memory holds afterwards.
+pub fn resolve(day: u32, page: u32, book: &[u8], text: &[u8], copy: &mut [u8], scratch: &mut [u16], entries: &mut [u32]) -> (u32, u32, u32) {
+    let (rule, playing) = match accepted(day, page, book, text.len(), copy.len(), scratch.len(), entries.len()) {
         Ok(accepted) => accepted,
         Err((refusal, cue)) => return (refusal, cue, 0),
     };
+    // Finding, forward running and grouping take the playing cues alone; the index in the book is for faults.
+    let (indices, cues): (Vec<usize>, Vec<Cue>) = playing.into_iter().unzip();
 
     // The copy's first n bytes are the folded text, and the scratch is 0 throughout, whether a cue meets 12 or 15 or neither.
     let fold_all = |letters: &[u8]| letters.iter().map(|&letter| rule(letter)).collect::<Vec<u8>>();
@@ -26,26 +28,32 @@ pub fn resolve(page: u32, book: &[u8], text: &[u8], copy: &mut [u8], scratch: &m
     let (endings, groups) = (endings(text), groups(&cues));
     // n times the groups walked.
     let reads = |walked: usize| (text.len() * walked) as u32;
-    let walked_up_to = |index: usize| groups.iter().filter(|group| group.start <= index).count();
+    let walked_up_to = |k: usize| groups.iter().filter(|group| group.start <= k).count();
     let mut before = None;
-    for (index, cue) in cues.iter().enumerate() {
+    for (k, cue) in cues.iter().enumerate() {
         let found = occurrence(&fold_all(&book[cue.phrase.clone()]), &folded, cue.ordinal);
         // Cue by cue 12 and then 15. The entries of earlier cues stay written; those of this cue and the later ones keep their values. The group of this
         // cue is included.
         let place = match forward(before, found) {
             Ok(place) => place,
-            Err(refusal) => return (refusal, index as u32, reads(walked_up_to(index))),
+            Err(refusal) => return (refusal, indices[k] as u32, reads(walked_up_to(k))),
         };
         let (line, column) = line_and_column(&endings, place);
-        entries[3 * index..3 * index + 3].copy_from_slice(&[place, line, column].map(|number| number as u32));
+        entries[3 * k..3 * k + 3].copy_from_slice(&[place, line, column].map(|number| number as u32));
         before = Some(place);
     }
     (0, cues.len() as u32, reads(groups.len()))
 }
 
-/// The page's rule and the book's cues; or the refusals 4 and 5, then 14, then 6, then those of the whole book, then 11, for which nothing is written
-/// and nothing is read.
-fn accepted(page: u32, book: &[u8], n: usize, copy: usize, scratch: usize, entries: usize) -> Result<(Rule, Vec<Cue>), (u32, u32)> {
+/// A page's rule, and the cues that play, each with its index in the book.
+type Accepted = (Rule, Vec<(usize, Cue)>);
+
+/// What is resolved; or the refusals: the call's own date first of all, 4 and 5, then 14, then 6, then those of the whole book, then 11, for which nothing
+/// is written and nothing is read.
+fn accepted(day: u32, page: u32, book: &[u8], n: usize, copy: usize, scratch: usize, entries: usize) -> Result<Accepted, (u32, u32)> {
+    if day > 36_524 {
+        return Err((16, 0));
+    }
     if n > 32_768 {
         return Err((4, 0));
     }
@@ -56,14 +64,23 @@ fn accepted(page: u32, book: &[u8], n: usize, copy: usize, scratch: usize, entri
     if copy < n {
         return Err((6, 0));
     }
-    let cues = cues(book)?;
-    if entries < 3 * cues.len() {
+    let playing: Vec<(usize, Cue)> = cues(book)?.into_iter().enumerate().filter(|(_, cue)| plays(cue, day)).collect();
+    // 11 counts the playing cues.
+    if entries < 3 * playing.len() {
         return Err((11, 0));
     }
-    Ok((rule, cues))
+    Ok((rule, playing))
 }
 
-/// The place of a cue, if it was found and is above that of the cue before it; the first cue has none before it.
+/// Whether a cue plays on this day: its first and last day are both included, and without the field it plays always.
+pub fn plays(cue: &Cue, day: u32) -> bool {
+    match cue.days {
+        Some((first, last)) => first <= day && day <= last,
+        None => true,
+    }
+}
+
+/// The place of a cue, if it was found and is above that of the playing cue before it; the first one has none before it.
 fn forward(before: Option<usize>, found: Option<usize>) -> Result<usize, u32> {
     match (before, found) {
         (_, None) => Err(12),

@@ -1,8 +1,8 @@
-//! The worked examples of document 01, "The finder program" and "Refrains to try", and of document 02, (ii), (iv), (v), (vi), (x), (xi) and
-//! (xiii), and the tests that books, cues and lent memory meet.
+//! The worked examples of document 01, "The finder program" and "Refrains to try", and of document 02, (ii), (iv) to (viii), (x), (xi) and (xiii), and the
+//! tests that books, cues and lent memory meet.
 
 use crate::{boyer_moore, double_window, fjs, horspool, improved_fjs, kmp, sunday};
-use crate::{cues, read_book, read_cue, read_due, read_field, title, write_cue, Cue, Field};
+use crate::{cues, date, day, read_book, read_cue, read_due, read_field, title, write_cue, Cue, Field};
 use crate::{endings, find, find_moves, finder_output, fold, fold_text, folding_rule, groups, line_and_column, max_shift_table, resolve, widest_gap};
 use crate::{new_text, relist};
 
@@ -939,13 +939,13 @@ const BOOK: &[u8] = b"\x01\x00\x02la\x02\x00\x02\x00\x02\x03\x00\x02No";
 #[test]
 fn starred_book() {
     assert_eq!(BOOK, [0x01, 0x00, 0x02, 0x6c, 0x61, 0x02, 0x00, 0x02, 0x00, 0x02, 0x03, 0x00, 0x02, 0x4e, 0x6f]);
-    assert_eq!(cues(BOOK), Ok(vec![Cue { phrase: 3..5, ordinal: 2, title: 13..15 }]));
-    assert_eq!(read_cue(BOOK, 0), Ok((Cue { phrase: 3..5, ordinal: 2, title: 13..15 }, 15)));
+    assert_eq!(cues(BOOK), Ok(vec![Cue { phrase: 3..5, ordinal: 2, title: 13..15, days: None }]));
+    assert_eq!(read_cue(BOOK, 0), Ok((Cue { phrase: 3..5, ordinal: 2, title: 13..15, days: None }, 15)));
     assert_eq!(read_book(BOOK), (0, 1));
     assert_eq!(title(BOOK, 0), (13, 2));
     assert_eq!(title(BOOK, 1), (0, 0));
     let mut buffer = [7; 17];
-    assert_eq!(write_cue(&mut buffer, b"la", 2, b"No"), (0, 15));
+    assert_eq!(write_cue(&mut buffer, b"la", 2, b"No", None), (0, 15));
     assert_eq!(buffer, *[BOOK, &[7, 7]].concat());
 }
 
@@ -1005,7 +1005,7 @@ fn fields() {
     assert_eq!(met(&[0x02, 0x00, 0x02, 0x00, 0x00], Field::Ordinal), Some(9));
     assert_eq!(met(&[0x02, 0x00, 0x02, 0x01, 0x00], Field::Ordinal), None);
     assert_eq!(read_due(BOOK, 10, 3), read_field(BOOK, 10, Field::Title));
-    assert_eq!((read_due(BOOK, 12, 4), read_due(BOOK, 13, 4), read_due(BOOK, usize::MAX, 0)), (Err(8), Err(7), Err(7)));
+    assert_eq!((read_due(BOOK, 12, 5), read_due(BOOK, 13, 5), read_due(BOOK, usize::MAX, 0)), (Err(8), Err(7), Err(7)));
 }
 
 #[test]
@@ -1023,23 +1023,80 @@ fn numbers_of_cues() {
 
 #[test]
 fn cues_to_be_written() {
-    let mut buffer = [7; 1235];
+    let mut buffer = [7; 1242];
     let letters = [b'a'; 1025];
-    assert_eq!(write_cue(&mut buffer, b"", 0, &letters), (2, 0));
-    assert_eq!(write_cue(&mut buffer, &letters, 0, &letters), (3, 0));
+    assert_eq!(write_cue(&mut buffer, b"", 0, &letters, None), (2, 0));
+    assert_eq!(write_cue(&mut buffer, &letters, 0, &letters, None), (3, 0));
     for (ordinal, title) in [(0, 0), (65_536, 0), (u32::MAX, 0), (1, 201)] {
-        assert_eq!(write_cue(&mut buffer[..0], b"a", ordinal, &letters[..title]), (9, 0));
+        assert_eq!(write_cue(&mut buffer[..0], b"a", ordinal, &letters[..title], None), (9, 0));
     }
-    assert_eq!(write_cue(&mut buffer[..1234], &letters[..1024], 65_535, &letters[..200]), (13, 0));
-    assert_eq!(buffer, [7; 1235]);
-    assert_eq!(write_cue(&mut buffer, &letters[..1024], 65_535, &letters[..200]), (0, 1235));
-    assert_eq!(cues(&buffer), Ok(vec![Cue { phrase: 3..1027, ordinal: 65_535, title: 1035..1235 }]));
+    assert_eq!(write_cue(&mut buffer[..1234], &letters[..1024], 65_535, &letters[..200], None), (13, 0));
+    assert_eq!(write_cue(&mut buffer[..1241], &letters[..1024], 65_535, &letters[..200], Some((0, 36_524))), (13, 0));
+    // The days come first of all, and 13 is by the length with them.
+    for days in [(0, 36_525), (36_525, 36_525), (1, 0), (u32::MAX, 0)] {
+        assert_eq!(write_cue(&mut buffer[..0], b"", 0, &letters, Some(days)), (16, 0));
+    }
+    assert_eq!(buffer, [7; 1242]);
+    assert_eq!(write_cue(&mut buffer, &letters[..1024], 65_535, &letters[..200], None), (0, 1235));
+    let longest = Cue { phrase: 3..1027, ordinal: 65_535, title: 1035..1235, days: None };
+    assert_eq!((cues(&buffer[..1235]), &buffer[1235..]), (Ok(vec![longest.clone()]), &[7; 7][..]));
+    assert_eq!(write_cue(&mut buffer, &letters[..1024], 65_535, &letters[..200], Some((0, 36_524))), (0, 1242));
+    assert_eq!(buffer[1235..], [0x04, 0x00, 0x04, 0x00, 0x00, 0x8e, 0xac]);
+    assert_eq!(cues(&buffer), Ok(vec![Cue { days: Some((0, 36_524)), ..longest }]));
 }
 
-/// What the resolver gives, with the entries, in memory that is just long enough and holds 7 throughout before.
-fn resolved(page: u32, book: &[u8], text: &[u8], cues: usize) -> ((u32, u32, u32), Vec<u32>) {
+/// Document 02 (viii): the end of 2099 is 36,524; 2000 has a 29 February and 2100 is past the calendar.
+#[test]
+fn the_calendar() {
+    let both = [(0, (2000, 1, 1)), (30, (2000, 1, 31)), (59, (2000, 2, 29)), (60, (2000, 3, 1)), (365, (2000, 12, 31)), (366, (2001, 1, 1))];
+    let late = [(9569, (2026, 3, 14)), (36_523, (2099, 12, 30)), (36_524, (2099, 12, 31))];
+    for (number, (year, month, of_month)) in both.into_iter().chain(late) {
+        assert_eq!((day(year, month, of_month), date(number)), ((0, number), (0, year, month, of_month)));
+    }
+    let wrong = [(1999, 12, 31), (2100, 1, 1), (2001, 2, 29), (2000, 2, 30), (2000, 4, 31), (2000, 0, 1), (2000, 13, 1), (2000, 1, 0), (2000, 1, 32)];
+    for (year, month, of_month) in wrong {
+        assert_eq!(day(year, month, of_month), (16, 0), "{year} {month} {of_month}");
+    }
+    assert_eq!([36_525, 65_535, u32::MAX].map(date), [(16, 0, 0, 0); 3]);
+}
+
+/// The starred book's cue with the days 1 to 256.
+const DATED: &[u8] = b"\x01\x00\x02la\x02\x00\x02\x00\x02\x03\x00\x02No\x04\x00\x04\x00\x01\x01\x00";
+
+/// Document 02 (viii): the field of the dates, and whose it is.
+#[test]
+fn dates_of_cues() {
+    let dated = Cue { phrase: 3..5, ordinal: 2, title: 13..15, days: Some((1, 256)) };
+    assert_eq!(read_cue(DATED, 0), Ok((dated.clone(), 22)));
+    assert_eq!((read_field(DATED, 15, Field::Dates), read_due(DATED, 15, 4)), (Ok((18..22, 22)), Ok((18..22, 22))));
+    assert_eq!((read_book(&[DATED, BOOK, DATED].concat()), title(&[DATED, BOOK].concat(), 1)), ((0, 3), (35, 2)));
+    let mut buffer = [7; 23];
+    assert_eq!(write_cue(&mut buffer, b"la", 2, b"No", Some((1, 256))), (0, 22));
+    assert_eq!(buffer, *[DATED, &[7]].concat());
+    // After 999 cues a field of dates is the last one's, and anything else remains.
+    let full = BOOK.repeat(999);
+    assert_eq!(read_book(&[&full[..], &DATED[15..]].concat()), (0, 999));
+    assert_eq!(read_book(&[&full[..], &DATED[15..], &[0x04]].concat()), (10, 999));
+    assert_eq!(read_book(&[&full[..], &[0x04]].concat()), (7, 998));
+    // A second field of dates is where the next phrase is due.
+    assert_eq!(read_book(&[DATED, &DATED[15..]].concat()), (8, 1));
+
+    // The tests in their order, each met by a field that would also meet the later ones.
+    let met = |field: &[u8]| read_book(&[DATED, BOOK, field].concat());
+    assert_eq!([&[0x04][..], &[0x04, 0x00]].map(met), [(7, 1); 2]);
+    for length in [&[0x00, 0x00][..], &[0x00, 0x03], &[0x00, 0x05], &[0x04, 0x00], &[0x04, 0x04]] {
+        assert_eq!(met(&[&[0x04], length, &[0xff, 0xff, 0x00]].concat()), (9, 1));
+    }
+    assert_eq!(met(&[0x04, 0x00, 0x04, 0xff, 0xff, 0x00]), (7, 1));
+    assert_eq!(met(&[0x04, 0x00, 0x04, 0x00, 0x00, 0x8e, 0xad]), (16, 1));
+    assert_eq!(met(&[0x04, 0x00, 0x04, 0x00, 0x02, 0x00, 0x01]), (16, 1));
+    assert_eq!(met(&[0x04, 0x00, 0x04, 0x8e, 0xac, 0x8e, 0xac]), (0, 2));
+}
+
+/// What the resolver gives on a day, with the entries, in memory that is just long enough and holds 7 throughout before.
+fn resolved_on(day: u32, page: u32, book: &[u8], text: &[u8], cues: usize) -> ((u32, u32, u32), Vec<u32>) {
     let (mut copy, mut scratch, mut entries) = (vec![7; text.len()], vec![7; 65_535], vec![7; 3 * cues]);
-    let answer = resolve(page, book, text, &mut copy, &mut scratch, &mut entries);
+    let answer = resolve(day, page, book, text, &mut copy, &mut scratch, &mut entries);
     if [0, 12, 15].contains(&answer.0) {
         assert_eq!(copy, text.iter().map(|&letter| folding_rule(page).unwrap()(letter)).collect::<Vec<u8>>());
         assert_eq!(scratch, [0; 65_535]);
@@ -1047,6 +1104,11 @@ fn resolved(page: u32, book: &[u8], text: &[u8], cues: usize) -> ((u32, u32, u32
         assert_eq!((copy, scratch), (vec![7; text.len()], vec![7; 65_535]));
     }
     (answer, entries)
+}
+
+/// What the resolver gives for cues that play always.
+fn resolved(page: u32, book: &[u8], text: &[u8], cues: usize) -> ((u32, u32, u32), Vec<u32>) {
+    resolved_on(9569, page, book, text, cues)
 }
 
 #[test]
@@ -1072,8 +1134,8 @@ fn line_ends() {
 #[test]
 fn folded_and_overlapping_occurrences() {
     let mut book = [0; 1000];
-    let (_, first) = write_cue(&mut book, b"\xc9L\xe9", 2, b"");
-    let (_, second) = write_cue(&mut book[first as usize..], b"\n", 2, b"the second line's end");
+    let (_, first) = write_cue(&mut book, b"\xc9L\xe9", 2, b"", None);
+    let (_, second) = write_cue(&mut book[first as usize..], b"\n", 2, b"the second line's end", None);
     let book = &book[..(first + second) as usize];
     for page in [1, 15] {
         assert_eq!(resolved(page, book, b" \n\xe9l\xc9L\xe9\n", 2), ((0, 2, 8), vec![4, 2, 3, 7, 2, 6]));
@@ -1086,7 +1148,7 @@ fn folded_and_overlapping_occurrences() {
 
 /// The first cue of each group, and the one after its last, for cues with phrases of these lengths.
 fn bounds_of_groups(lengths: &[usize]) -> Vec<(usize, usize)> {
-    let cues: Vec<Cue> = lengths.iter().map(|&length| Cue { phrase: 0..length, ordinal: 1, title: 0..0 }).collect();
+    let cues: Vec<Cue> = lengths.iter().map(|&length| Cue { phrase: 0..length, ordinal: 1, title: 0..0, days: None }).collect();
     groups(&cues).into_iter().map(|group| (group.start, group.end)).collect()
 }
 
@@ -1105,15 +1167,22 @@ fn groups_of_cues() {
     assert_eq!(bounds_of_groups(&[1024; 999]).len(), 250);
 }
 
-/// A book of these phrases and ordinals.
-fn book_of(cues: &[(&[u8], u32)]) -> Vec<u8> {
+/// A phrase and an ordinal, and the days of a cue that has them.
+type DatedCue<'a> = (&'a [u8], u32, Option<(u32, u32)>);
+
+fn dated_book_of(cues: &[DatedCue]) -> Vec<u8> {
     let mut book = Vec::new();
-    for (phrase, ordinal) in cues {
-        let mut cue = [0; 100];
-        let (_, length) = write_cue(&mut cue, phrase, *ordinal, b"");
+    for &(phrase, ordinal, days) in cues {
+        let mut cue = [0; 1100];
+        let (_, length) = write_cue(&mut cue, phrase, ordinal, b"", days);
         book.extend_from_slice(&cue[..length as usize]);
     }
     book
+}
+
+/// A book of these phrases and ordinals.
+fn book_of(cues: &[(&[u8], u32)]) -> Vec<u8> {
+    dated_book_of(&cues.iter().map(|&(phrase, ordinal)| (phrase, ordinal, None)).collect::<Vec<_>>())
 }
 
 /// Document 02 (vi): n times the groups walked, the group of a refused cue included; (vii): the cue refused with 15 is counted as the one with 12. The
@@ -1173,19 +1242,73 @@ fn cues_run_forward() {
 #[test]
 fn resolving_by_a_page() {
     let mut book = [0; 1000];
-    let (_, length) = write_cue(&mut book, b"c\xbcur", 2, b"");
+    let (_, length) = write_cue(&mut book, b"c\xbcur", 2, b"", None);
     let book = &book[..length as usize];
     assert_eq!(resolved(15, book, b"C\xbdUR\nc\xbcur", 1), ((0, 1, 9), vec![5, 2, 1]));
     assert_eq!(resolved(1, book, b"C\xbdUR\nc\xbcur", 1), ((12, 0, 9), vec![7, 7, 7]));
     assert_eq!(resolved(2, book, b"C\xbdUR\nc\xbcur", 1), ((14, 0, 0), vec![7, 7, 7]));
 }
 
-/// The tests in their order, each met by a call that would also meet the later ones; 14 comes after 5 and before 6.
+/// Document 02 (viii): entries for the playing cues only; forward running, finding, 11 and the number take those alone; a fault names the index in the
+/// book. The text is of nine letters; "a" stands at 0, 3 and 6.
+#[test]
+fn cues_that_play() {
+    let text = b"abcabcabc";
+    // Always; from 5 to 7, at the same place as the next; from 8 to 8; never found; always.
+    let cues: [DatedCue; 5] = [(b"a", 1, None), (b"a", 2, Some((5, 7))), (b"ab", 2, Some((8, 8))), (b"so", 1, Some((9, 36_524))), (b"a", 3, None)];
+    let given = |day, room| resolved_on(day, 1, &dated_book_of(&cues), text, room);
+    let entries = |places: &[u32]| places.iter().flat_map(|&place| [place, 1, place + 1]).collect::<Vec<u32>>();
+    for (day, places) in [(0, &[0, 6][..]), (4, &[0, 6]), (5, &[0, 3, 6]), (6, &[0, 3, 6]), (7, &[0, 3, 6]), (8, &[0, 3, 6])] {
+        let count = places.len();
+        assert_eq!(given(day, count), ((0, count as u32, 9), entries(places)), "day {day}");
+        assert_eq!(given(day, count - 1), ((11, 0, 0), vec![7; 3 * count - 3]), "day {day}");
+    }
+    for day in [9, 36_524] {
+        assert_eq!(given(day, 3), ((12, 3, 9), [entries(&[0]), vec![7; 6]].concat()), "day {day}");
+        assert_eq!(given(day, 2), ((11, 0, 0), vec![7; 6]), "day {day}");
+    }
+    // 15 compares with the playing cue before it: 0, 6, 3 and 0, 3; and 3, 0, 3 and 3, 3, where the index counts the cue that does not play.
+    let between = |ordinals: [u32; 3], day| {
+        let days = [None, Some((5, 5)), None];
+        let cues = [0, 1, 2].map(|k| (&b"a"[..], ordinals[k], days[k]));
+        resolved_on(day, 1, &dated_book_of(&cues), text, 3).0
+    };
+    assert_eq!([5, 4].map(|day| between([1, 3, 2], day)), [(15, 2, 9), (0, 2, 9)]);
+    assert_eq!([5, 4].map(|day| between([2, 1, 2], day)), [(15, 1, 9), (15, 2, 9)]);
+}
+
+/// Document 02 (viii): with no playing cue there are no groups, and the copy is folded and the scratch 0 all the same, as `resolved_on` tests.
+#[test]
+fn no_cue_plays() {
+    let off: [DatedCue; 2] = [(b"a", 1, Some((1, 1))), (b"so", 1, Some((3, 4)))];
+    for day in [0, 2, 5, 36_524] {
+        assert_eq!(resolved_on(day, 1, &dated_book_of(&off), b"ABC", 0), ((0, 0, 0), vec![]), "day {day}");
+    }
+}
+
+/// Document 02 (viii): grouping takes the playing cues alone, by their number and by their bytes.
+#[test]
+fn groups_of_playing_cues() {
+    let text = vec![b'a'; 1200];
+    let cues: Vec<DatedCue> = (1..=130).map(|k| (&b"a"[..], k, (k % 2 == 0).then_some((7, 7)))).collect();
+    assert_eq!(resolved_on(7, 1, &dated_book_of(&cues), &text, 130).0, (0, 130, 3 * 1200));
+    assert_eq!(resolved_on(8, 1, &dated_book_of(&cues), &text, 65).0, (0, 65, 2 * 1200));
+    let long = [b'a'; 1024];
+    let cues: Vec<DatedCue> = (1..=8).map(|k| (&long[..], k, (k % 2 == 0).then_some((7, 7)))).collect();
+    assert_eq!(resolved_on(7, 1, &dated_book_of(&cues), &text, 8).0, (0, 8, 2 * 1200));
+    assert_eq!(resolved_on(8, 1, &dated_book_of(&cues), &text, 4).0, (0, 4, 1200));
+}
+
+/// The tests in their order, each met by a call that would also meet the later ones; 16 comes first of all, and 14 after 5 and before 6.
 #[test]
 fn resolving_limits() {
     let text = [b'a'; 32_769];
     let (mut copy, mut scratch) = (vec![7; 32_769], vec![7; 65_535]);
-    let mut refusal = |page, n, copied, tables| resolve(page, b"\x02", &text[..n], &mut copy[..copied], &mut scratch[..tables], &mut []);
+    let mut refusal_on = |day, page, n, copied, tables| resolve(day, page, b"\x02", &text[..n], &mut copy[..copied], &mut scratch[..tables], &mut []);
+    for day in [36_525, 65_536, u32::MAX] {
+        assert_eq!(refusal_on(day, 0, 32_769, 0, 0), (16, 0, 0));
+    }
+    let mut refusal = |page, n, copied, tables| refusal_on(36_524, page, n, copied, tables);
     assert_eq!(refusal(0, 32_769, 0, 0), (4, 0, 0));
     assert_eq!(refusal(0, 32_768, 0, 65_534), (5, 0, 0));
     assert_eq!(refusal(0, 32_768, 0, 65_535), (14, 0, 0));

@@ -34,16 +34,21 @@ pub fn compare_field(book: &[u8], behind: &[u8], place: usize, due: u32) -> RawF
 /// Reads the cue at a place by the library and by the reference, and compares all that they give. Any difference ends the test with the whole case.
 pub fn compare_cue(book: &[u8], behind: &[u8], place: usize) -> RawCue {
     let reference = match reference::read_cue(book, place) {
-        Ok((reference::Cue { phrase, ordinal, title }, end)) => RawCue {
+        Ok((reference::Cue { phrase, ordinal, title, days }, end)) => RawCue {
             refusal: 0,
             ordinal,
+            dated: days.is_some().into(),
+            first: days.map_or(0, |(first, _)| first),
+            last: days.map_or(0, |(_, last)| last),
             phrase_start: phrase.start,
             phrase_len: phrase.len(),
             title_start: title.start,
             title_len: title.len(),
             end,
         },
-        Err(refusal) => RawCue { refusal, ordinal: 0, phrase_start: 0, phrase_len: 0, title_start: 0, title_len: 0, end: 0 },
+        Err(refusal) => {
+            RawCue { refusal, ordinal: 0, dated: 0, first: 0, last: 0, phrase_start: 0, phrase_len: 0, title_start: 0, title_len: 0, end: 0 }
+        }
     };
     compare_reading(book, behind, &format!("place {place}"), |book| read_cue_raw(book, place), reference)
 }
@@ -77,18 +82,40 @@ pub fn compare_book(book: &[u8], behind: &[u8]) -> RawAnswer {
     raw
 }
 
+/// The numbers by which a cue to be written is told its days. With 0 as `dated` it has none, and with any other number the first and the last one.
+#[derive(Clone, Copy, Debug)]
+pub struct Dating {
+    pub dated: u32,
+    pub first: u32,
+    pub last: u32,
+}
+
+impl Dating {
+    /// The numbers for a cue without days.
+    pub const NONE: Dating = Dating { dated: 0, first: 0, last: 0 };
+
+    /// The days that they tell.
+    pub fn days(self) -> Option<(u32, u32)> {
+        match self.dated {
+            0 => None,
+            _ => Some((self.first, self.last)),
+        }
+    }
+}
+
 /// Writes a cue by the library and by the reference, into buffers that are dirty before the call, by the seed, and compares the answers and the whole
 /// buffers with guards on both sides. Any difference ends the test with the whole case.
-pub fn compare_write(buffer_len: usize, phrase: &[u8], ordinal: u32, title: &[u8], seed: u64) -> RawAnswer {
+pub fn compare_write(buffer_len: usize, phrase: &[u8], ordinal: u32, title: &[u8], dating: Dating, seed: u64) -> RawAnswer {
     let dirty = dirt(buffer_len, seed);
     let (mut shown_phrase, mut shown_title, mut buffer) = (Shown::default(), Shown::default(), Lent::default());
     shown_phrase.show(phrase, title);
     shown_title.show(title, phrase);
     buffer.soil(dirty);
     let (library_buffer, reference_buffer) = buffer.lend();
-    let raw = write_cue_raw(library_buffer, shown_phrase.entries(), ordinal, shown_title.entries());
+    let Dating { dated, first, last } = dating;
+    let raw = write_cue_raw(library_buffer, shown_phrase.entries(), ordinal, shown_title.entries(), dated, first, last);
     let library = (raw.refusal, raw.number);
-    let reference = reference::write_cue(reference_buffer, phrase, ordinal, title);
+    let reference = reference::write_cue(reference_buffer, phrase, ordinal, title, dating.days());
 
     let mut faults = Faults::default();
     faults.when(library != reference, "refusal or number differ");
@@ -98,7 +125,7 @@ pub fn compare_write(buffer_len: usize, phrase: &[u8], ordinal: u32, title: &[u8
     faults.when(raw.refusal != 0 && (buffer.left() != dirty || raw.number != 0), "a refused call wrote something or gave a number");
     faults.judge(|| {
         format!(
-            "buffer_len {buffer_len}, ordinal {ordinal}, seed {seed}\nphrase of {} bytes: \"{}\"\ntitle of {} bytes: \"{}\"\n\
+            "buffer_len {buffer_len}, ordinal {ordinal}, {dating:?}, seed {seed}\nphrase of {} bytes: \"{}\"\ntitle of {} bytes: \"{}\"\n\
              (refusal, number): library {library:?}, reference {reference:?}",
             phrase.len(),
             phrase.escape_ascii(),

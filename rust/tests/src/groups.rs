@@ -1,6 +1,7 @@
 //! The groups that cues are resolved in, and what a resolve of cues must come to and answer by them.
 
 use crate::books::{book, Cue};
+use crate::evenings::{all_playing, some_day, Evening};
 use crate::pages::PAGES;
 use crate::verses::{place_of, rising_of_lengths, total, verse, ALPHABETS};
 use crate::{compare_resolve, Lengths, Random};
@@ -23,7 +24,7 @@ pub fn group_numbers(cues: &[Cue]) -> Vec<usize> {
     cues.iter().map(&mut take).collect()
 }
 
-/// What a resolve of cues comes to: all stand in the text and run forward, or the first that does not, by its index.
+/// What a resolve of cues that all play comes to: all stand in the text and run forward, or the first that does not, by its index.
 #[derive(Clone, Copy, Debug, PartialEq, Eq)]
 pub enum Outcome {
     Resolved,
@@ -80,17 +81,32 @@ pub fn past_the_last(page: u32, cue: &Cue, text: &[u8]) -> Cue {
     Cue { ordinal: total(page, &cue.phrase, text) as u16 + 1, ..cue.clone() }
 }
 
-/// Resolves the cues in memory that is just long enough or somewhat longer.
+/// Resolves the cues on a day on which all of them play, in memory that is just long enough or somewhat longer.
 pub fn resolve(page: u32, cues: &[Cue], text: &[u8], random: &mut Random) -> RawResolving {
+    let day = some_day(random);
     let lengths = Lengths::enough(text.len(), cues.len()).or_more(random);
-    compare_resolve(page, &book(cues), text, lengths, random.next())
+    compare_resolve(day.into(), page, &book(&all_playing(cues, day, random)), text, lengths, random.next())
 }
 
-/// Resolves cues that come to this.
+/// Resolves the cues of an evening, which come to this, with the playing ones counted.
+#[track_caller]
+pub fn resolve_evening(outcome: Outcome, page: u32, evening: &Evening, text: &[u8], random: &mut Random) {
+    let playing: Vec<Cue> = evening.playing.iter().map(|&index| evening.cues[index].clone()).collect();
+    let lengths = Lengths::enough(text.len(), playing.len()).or_more(random);
+    let answer = compare_resolve(evening.day.into(), page, &evening.book(), text, lengths, random.next());
+    let mut due = outcome.answer(&playing, text.len());
+    if due.refusal != 0 {
+        // A fault names the index in the book.
+        due.number = evening.playing[due.number as usize] as u32;
+    }
+    assert_eq!(answer, due, "page {page}, {outcome:?}, {evening:?} in \"{}\"", text.escape_ascii());
+}
+
+/// Resolves cues that come to this, on an evening on which they all play and others in the book may not.
 #[track_caller]
 pub fn resolve_to(outcome: Outcome, page: u32, cues: &[Cue], text: &[u8], random: &mut Random) {
-    let answer = resolve(page, cues, text, random);
-    assert_eq!(answer, outcome.answer(cues, text.len()), "page {page}, {outcome:?}, {cues:?} in \"{}\"", text.escape_ascii());
+    let evening = Evening::any(cues, random);
+    resolve_evening(outcome, page, &evening, text, random);
 }
 
 /// Resolves cues that all stand in the text and run forward.

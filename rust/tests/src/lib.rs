@@ -6,7 +6,9 @@ use std::cell::Cell;
 use std::sync::atomic::{AtomicU64, Ordering};
 
 pub mod books;
+mod calendar;
 mod cue_book;
+pub mod evenings;
 mod find;
 mod fold;
 pub mod groups;
@@ -19,7 +21,8 @@ pub mod verses;
 pub mod words;
 pub mod xml;
 
-pub use cue_book::{compare_book, compare_cue, compare_field, compare_write};
+pub use calendar::{compare_date, compare_day};
+pub use cue_book::{compare_book, compare_cue, compare_field, compare_write, Dating};
 pub use find::{compare, compare_moves, needed, METHODS};
 pub use fold::{compare_fold, compare_letter};
 pub use late_cuts::{compare_relists, Cut};

@@ -1,8 +1,8 @@
-//! Reading cue books: damaged, cut and random ones, fields of every kind, the most cues, and the order of the refusals. The titles are compared in
-//! every compared book.
+//! Reading cue books: damaged, cut and random ones, fields of every kind, the days of cues, the most cues, and the order of the refusals. The titles are
+//! compared in every compared book.
 
 use libretto::{read_book, title, RawAnswer};
-use libretto_tests::books::{book, change, each_damage, field, samples, Cue, CUES, MORE};
+use libretto_tests::books::{book, change, each_damage, field, samples, Cue, CUES, LAST_DAY, MORE, MORE_DATED};
 use libretto_tests::{compare_book, report, Random};
 
 fn numbers(raw: RawAnswer) -> (u32, u32) {
@@ -11,12 +11,12 @@ fn numbers(raw: RawAnswer) -> (u32, u32) {
 
 #[test]
 fn every_damage_of_one_byte() {
-    let mut met = [0; 14];
+    let mut met = [0; 17];
     for cues in samples() {
         each_damage(&mut book(&cues), |damaged| met[compare_book(damaged, MORE).refusal as usize] += 1);
     }
-    assert!([0, 7, 8, 9].iter().all(|&refusal| met[refusal] > 500), "the damages met too little: {met:?}");
-    report("every_damage_of_one_byte", 255 * 1800);
+    assert!([0, 7, 8, 9, 16].iter().all(|&refusal| met[refusal] > 500), "the damages met too little: {met:?}");
+    report("every_damage_of_one_byte", 255 * 2400);
 }
 
 #[test]
@@ -26,12 +26,21 @@ fn every_end() {
         let ends: Vec<usize> = (0..=cues.len()).map(|count| book(&cues[..count]).len()).collect();
         for length in 0..=whole.len() {
             let cue = ends.iter().rposition(|&end| end <= length).expect("0 is an end");
+            // A cue with days may end behind its title too, and is then one without.
+            let without = cues.get(cue).is_some_and(|cue| cue.days.is_some()) && length + 7 == ends[cue + 1];
+            let expected = if length == ends[cue] {
+                (0, cue as u32)
+            } else if without {
+                (0, cue as u32 + 1)
+            } else {
+                (7, cue as u32)
+            };
             // The book goes on behind its end.
             let raw = compare_book(&whole[..length], &[&whole[length..], MORE].concat());
-            assert_eq!(numbers(raw), (if length == ends[cue] { 0 } else { 7 }, cue as u32), "{length} bytes of {cues:?}");
+            assert_eq!(numbers(raw), expected, "{length} bytes of {cues:?}");
         }
     }
-    report("every_end", 1800);
+    report("every_end", 2400);
 }
 
 /// The refusal of a field of which so many bytes are present, by the words of document 01; 0 for none.
@@ -39,7 +48,8 @@ fn due(due_tag: u8, tag: u8, length: usize, present: usize) -> u32 {
     let allowed = match due_tag {
         1 => 1..=1024,
         2 => 2..=2,
-        _ => 0..=200,
+        3 => 0..=200,
+        _ => 4..=4,
     };
     if present < 3 {
         7
@@ -54,10 +64,47 @@ fn due(due_tag: u8, tag: u8, length: usize, present: usize) -> u32 {
     }
 }
 
-/// Each field of a middle cue in turn, with any tag, length and end together, so that the order of the tests shows.
+/// What stands behind a title, with any tag, length, days and end together, so that the order of the tests shows: a tag 4 is that cue's, any other one
+/// is where the next phrase is due.
+#[test]
+fn every_tag_behind_a_title() {
+    let cue = Cue::new(b"la", 2, b"No");
+    for tag in [0, 1, 2, 3, 4, 5, 0x84, 255] {
+        for length in [0, 1, 2, 3, 4, 5, 6, 7, 255, 256, 260, 512, 1024, 1025, 65_535] {
+            // Days that are in order, and days that are not.
+            for days in [b"\0\x01\0\x02", b"\0\x02\0\x01", b"\xff\xff\xff\xff"] {
+                let whole = field(tag, length, &days.repeat(length / 4 + 1)[..length]);
+                for present in [1, 2, 3, 4, 5, 6, 7, whole.len() - 1, whole.len()] {
+                    let present = present.min(whole.len());
+                    let mut book = [&cue.bytes()[..], &cue.bytes(), &whole[..present]].concat();
+                    let mut behind = [&whole[present..], MORE].concat();
+                    if present == whole.len() && tag == 4 {
+                        book.append(&mut behind);
+                    }
+                    let expected = match (tag, due(tag, tag, length, present)) {
+                        (4, 0) if days != b"\0\x01\0\x02" => (16, 1),
+                        (4, 0) => (0, 3),
+                        (4, refusal) => (refusal, 1),
+                        // A phrase alone is no cue.
+                        (1, 0) => (7, 2),
+                        (1, refusal) => (refusal, 2),
+                        _ => (if present < 3 { 7 } else { 8 }, 2),
+                    };
+                    let raw = compare_book(&book, &behind);
+                    assert_eq!(numbers(raw), expected, "tag {tag}, length {length}, days {days:?}, {present} bytes present");
+                }
+            }
+        }
+    }
+    report("every_tag_behind_a_title", 8 * 15 * 3 * 9);
+}
+
+/// Each field of a middle cue in turn, with any tag, length and end together, so that the order of the tests shows. The cue before it has dates, so that
+/// a tag 4 is not that cue's.
 #[test]
 fn every_tag_with_every_length() {
     let cue = Cue::new(b"la", 2, b"No");
+    let first = cue.clone().on(1, 2).bytes();
     for due_tag in 1..=3u8 {
         let fields = cue.fields();
         let (before, after) = (&fields[..due_tag as usize - 1], &fields[due_tag as usize..]);
@@ -69,7 +116,7 @@ fn every_tag_with_every_length() {
                     if present > whole.len() || (present == 0 && due_tag == 1) {
                         continue;
                     }
-                    let mut book = [&cue.bytes()[..], &before.concat(), &whole[..present]].concat();
+                    let mut book = [&first[..], &before.concat(), &whole[..present]].concat();
                     let mut behind = [&whole[present..], &after.concat(), MORE].concat();
                     if present == whole.len() {
                         book.append(&mut behind);
@@ -92,6 +139,93 @@ fn every_ordinal() {
         assert_eq!(numbers(compare_book(&book, MORE)), if ordinal == 0 { (9, 1) } else { (0, 2) }, "ordinal {ordinal}");
     }
     report("every_ordinal", 65_536);
+}
+
+/// The answer for a book of three cues of which the second has these days.
+fn read_with_days(first: u16, last: u16) -> (u32, u32) {
+    numbers(compare_book(&book(&[Cue::new(b"la", 1, b"No"), Cue::new(b"la", 2, b"").on(first, last), Cue::new(b"a", 1, b"")]), MORE))
+}
+
+/// Every number as the first day and as the last one, beside days at the ends and with itself.
+#[test]
+fn every_day() {
+    for day in 0..=65_535u16 {
+        let is_day = day <= LAST_DAY;
+        for (first, last, sound) in [(day, LAST_DAY, is_day), (0, day, is_day), (day, day, is_day), (day, day.saturating_sub(1), day == 0)] {
+            assert_eq!(read_with_days(first, last), if sound { (0, 3) } else { (16, 1) }, "from {first} to {last}");
+        }
+    }
+    report("every_day", 4 * 65_536);
+}
+
+#[test]
+fn days_at_the_limits() {
+    let days = [0, 1, 2, 127, 128, 254, 255, 256, 257, 511, 512, 0x8dff, 0x8e00, 0x8eab, LAST_DAY, 36_525, 0x8f00, 0xff00, 65_534, 65_535];
+    for first in days {
+        for last in days {
+            let sound = first <= LAST_DAY && last <= LAST_DAY && first <= last;
+            assert_eq!(read_with_days(first, last), if sound { (0, 3) } else { (16, 1) }, "from {first} to {last}");
+        }
+    }
+    report("days_at_the_limits", 20 * 20);
+}
+
+/// A field of dates behind some of 999 cues: it is the last cue's behind the last title too, and whatever stands behind it remains.
+#[test]
+fn dates_behind_999_cues() {
+    let dates = &MORE_DATED[12..];
+    let full = MORE.repeat(CUES);
+    let dated = |indices: &[usize]| (0..CUES).flat_map(|k| if indices.contains(&k) { MORE_DATED } else { MORE }).copied().collect::<Vec<u8>>();
+    for indices in [&[998][..], &[997], &[997, 998], &[0, 998], &[0], &(0..CUES).collect::<Vec<_>>()] {
+        let book = dated(indices);
+        for behind in [MORE, dates] {
+            assert_eq!(numbers(compare_book(&book, behind)), (0, 999), "dates at {indices:?}");
+        }
+        for rest in [&[0][..], &[1], &[5], MORE, MORE_DATED] {
+            assert_eq!(numbers(compare_book(&[&book, rest].concat(), MORE)), (10, 999), "dates at {indices:?}, then {rest:?}");
+        }
+    }
+    // Two fields in a row behind the last title: the second one remains.
+    assert_eq!(numbers(compare_book(&[&full, dates, dates].concat(), MORE)), (10, 999));
+    assert_eq!(numbers(compare_book(&[&full, dates, &[4]].concat(), MORE)), (10, 999));
+    // What is wrong with the last cue's dates is its own fault.
+    for (rest, refusal) in [
+        (&b"\x04"[..], 7),
+        (b"\x04\x00", 7),
+        (b"\x04\x00\x04", 7),
+        (b"\x04\x00\x04\xff\xff\xff", 7),
+        (b"\x04\x00\x05\x00\x00\x00\x00\x00", 9),
+        (b"\x04\x04\x00", 9),
+        (b"\x04\x00\x04\x00\x01\x00\x00", 16),
+        (b"\x04\x00\x04\x00\x00\x8e\xad", 16),
+    ] {
+        // Bytes that remain do not come before it.
+        for more in [&b""[..], if refusal == 7 { b"" } else { MORE }] {
+            assert_eq!(numbers(compare_book(&[&full, rest, more].concat(), &[0; 9])), (refusal, 998), "{rest:?}");
+        }
+    }
+    report("dates_behind_999_cues", 6 * 7 + 2 + 8 * 2);
+}
+
+/// Two fields of dates in a row at each cue of a book: the second one is where the next phrase is due.
+#[test]
+fn two_fields_of_dates() {
+    let dates = &MORE_DATED[12..];
+    for count in 1..=4 {
+        for k in 0..count {
+            let (before, after) = (MORE.repeat(k), MORE_DATED.repeat(count - 1 - k));
+            let book = [&before[..], MORE_DATED, dates, &after].concat();
+            assert_eq!(numbers(compare_book(&book, MORE)), (8, k as u32 + 1), "behind cue {k} of {count}");
+            // A third one changes nothing, and of the second its tag alone counts.
+            let book = [&before[..], MORE_DATED, dates, dates, &after].concat();
+            assert_eq!(numbers(compare_book(&book, MORE)), (8, k as u32 + 1), "three behind cue {k} of {count}");
+            let book = [&before[..], MORE_DATED, b"\x04\xff\xff"].concat();
+            assert_eq!(numbers(compare_book(&book, MORE)), (8, k as u32 + 1), "behind cue {k}, with a length that is not allowed");
+            let book = [&before[..], MORE_DATED, b"\x04\x00"].concat();
+            assert_eq!(numbers(compare_book(&book, MORE)), (7, k as u32 + 1), "behind cue {k}, cut");
+        }
+    }
+    report("two_fields_of_dates", 10 * 4);
 }
 
 #[test]
@@ -120,7 +254,7 @@ fn numbers_of_cues() {
 #[test]
 fn random_books() {
     let mut random = Random::new(31);
-    let mut met = [0; 14];
+    let mut met = [0; 17];
     for _ in 0..5000 {
         let cues: Vec<Cue> = (0..random.below(9)).map(|_| Cue::random(&mut random)).collect();
         let mut bytes = book(&cues);
@@ -134,22 +268,22 @@ fn random_books() {
             met[compare_book(&bytes, MORE).refusal as usize] += 1;
         }
     }
-    assert!([0, 7, 8, 9].iter().all(|&refusal| met[refusal] > 500), "the changed books met too little: {met:?}");
+    assert!([0, 7, 8, 9].iter().all(|&refusal| met[refusal] > 500) && met[16] > 200, "the changed books met too little: {met:?}");
     report("random_books", 10_000);
 }
 
 #[test]
 fn random_bytes() {
     let mut random = Random::new(32);
-    let mut met = [0; 14];
+    let mut met = [0; 17];
     for round in 0..200_000 {
         let length = random.between(0, 40);
         // Mostly the bytes that headers are made of, sometimes behind a front that leads into the cue.
-        let mut bytes = MORE[..[0, 0, 4, 7, 9, 12][round % 6]].to_vec();
-        bytes.extend((0..length).map(|_| if random.below(16) == 0 { random.below(256) } else { random.below(4) } as u8));
+        let mut bytes = MORE_DATED[..[0, 0, 4, 7, 9, 12, 15, 17][round % 8]].to_vec();
+        bytes.extend((0..length).map(|_| if random.below(16) == 0 { random.below(256) } else { random.below(5) } as u8));
         met[compare_book(&bytes, MORE).refusal as usize] += 1;
     }
-    assert!([0, 7, 8, 9].iter().all(|&refusal| met[refusal] > 500), "the random bytes met too little: {met:?}");
+    assert!([0, 7, 8, 9, 16].iter().all(|&refusal| met[refusal] > 500), "the random bytes met too little: {met:?}");
     report("random_bytes", 200_000);
 }
 

@@ -1,12 +1,15 @@
 //! Reading one field and one cue at any place of a book: short byte strings, damaged, cut and random books, places past the end, and numbers that are
 //! no field's tag. That a refused answer is 0 in all else is tested in every compared call, by the reference.
 
-use libretto::{read_cue, read_field, Due, Refusal};
-use libretto_tests::books::{book, change, each_damage, field, samples, Cue, MORE, PHRASE, TITLE};
+use libretto::{read_cue, read_field, Days, Due, Refusal};
+use libretto_tests::books::{book, change, each_damage, field, samples, Cue, LAST_DAY, MORE, MORE_DATED, PHRASE, TITLE};
 use libretto_tests::{compare_cue, compare_field, report, Random};
 
 /// The fields' tags, and numbers that are none: some are a tag in their lowest 8, 16 or 24 bits.
-const DUES: [u32; 15] = [1, 2, 3, 0, 4, 5, 255, 256, 257, 258, 259, 65_537, 0x0100_0002, 0x8000_0003, u32::MAX];
+const DUES: [u32; 18] = [1, 2, 3, 4, 0, 5, 6, 255, 256, 257, 258, 259, 260, 65_537, 0x0100_0002, 0x8000_0003, 0x8000_0004, u32::MAX];
+
+/// The bytes that headers are made of, and another one.
+const BYTES: [u8; 6] = [0, 1, 2, 3, 4, 255];
 
 /// Places past the end of a book of this length, some of them inside it in their lowest 32 bits.
 fn places_past(length: usize) -> [usize; 9] {
@@ -18,61 +21,125 @@ fn places_past(length: usize) -> [usize; 9] {
 fn field_places(cues: &[Cue]) -> Vec<(usize, u32)> {
     let mut end = 0;
     let mut places = Vec::new();
-    for (field, due) in cues.iter().flat_map(Cue::fields).zip([1, 2, 3].into_iter().cycle()) {
-        places.push((end, due));
+    for field in cues.iter().flat_map(Cue::fields) {
+        places.push((end, field[0].into()));
         end += field.len();
     }
     places
 }
 
-/// Reads at a place the three fields and the cue, and tells the refusals.
-fn compare_all(book: &[u8], behind: &[u8], place: usize) -> [u32; 4] {
-    let [phrase, ordinal, title] = [1, 2, 3].map(|due| compare_field(book, behind, place, due).refusal);
-    [phrase, ordinal, title, compare_cue(book, behind, place).refusal]
+/// Reads at a place the four fields and the cue, and tells the refusals.
+fn compare_all(book: &[u8], behind: &[u8], place: usize) -> [u32; 5] {
+    let [phrase, ordinal, title, dates] = [1, 2, 3, 4].map(|due| compare_field(book, behind, place, due).refusal);
+    [phrase, ordinal, title, dates, compare_cue(book, behind, place).refusal]
 }
 
 #[test]
 fn every_short_string() {
-    let mut met = [0; 14];
+    let mut met = [0; 17];
     for length in 0..=6 {
-        for number in 0..5usize.pow(length as u32) {
-            let bytes: Vec<u8> = (0..length).map(|k| [0, 1, 2, 3, 255][number / 5usize.pow(k as u32) % 5]).collect();
-            for place in (0..=length + 1).chain([usize::MAX]) {
+        for number in 0..6usize.pow(length as u32) {
+            let bytes: Vec<u8> = (0..length).map(|k| BYTES[number / 6usize.pow(k as u32) % 6]).collect();
+            for place in (0..=length.min(3)).chain([length + 1, usize::MAX]) {
                 for refusal in compare_all(&bytes, MORE, place) {
                     met[refusal as usize] += 1;
                 }
-                assert_eq!(compare_field(&bytes, MORE, place, 4).refusal, if length >= place && length - place >= 3 { 8 } else { 7 });
+                assert_eq!(compare_field(&bytes, MORE, place, 5).refusal, if length >= place && length - place >= 3 { 8 } else { 7 });
             }
         }
     }
     assert!([0, 7, 8, 9].iter().all(|&refusal| met[refusal] > 500), "the strings met too little: {met:?}");
-    report("every_short_string", 19_531 * 5 * 3);
+    report("every_short_string", 55_987 * 6 * 3);
 }
 
-/// Any three bytes of the shortest cue changed together, so that whole cues are read too.
+/// The refusal of a field of dates of which so many bytes are present, by the words of documents 01 and 02.
+fn due_dates(length: usize, body: &[u8]) -> u32 {
+    if length != 4 {
+        return 9;
+    }
+    let [a, b, c, d, ..] = *body else {
+        return 7;
+    };
+    let (first, last) = (u16::from_be_bytes([a, b]), u16::from_be_bytes([c, d]));
+    if first > 36_524 || last > 36_524 || first > last {
+        16
+    } else {
+        0
+    }
+}
+
+/// Every field of dates with bytes at the limits of days and of their bytes, cut at each byte, and with other lengths.
+#[test]
+fn every_field_of_dates() {
+    let mut met = [0; 17];
+    let bytes = [0, 1, 2, 0x8d, 0x8e, 0x8f, 0xab, 0xac, 0xad, 255];
+    for number in 0..10usize.pow(4) {
+        let body = [0, 1, 2, 3].map(|k| bytes[number / 10usize.pow(k) % 10]);
+        for (length, present) in [(4, 4), (4, number % 4), (number % 4, 4), (5 + number % 3, 4), (0x0104, 4), (0x0400, number % 5)] {
+            let book = field(4, length, &body[..present]);
+            let behind = [&body[present..], MORE].concat();
+            let read = compare_field(&book, &behind, 0, 4);
+            let refusal = due_dates(length, &body[..present]);
+            let expected = if refusal == 0 { (0, 3, 4, 7) } else { (refusal, 0, 0, 0) };
+            assert_eq!((read.refusal, read.start, read.len, read.end), expected, "length {length}, {present} bytes of {body:?}");
+            met[read.refusal as usize] += 1;
+
+            // The same behind a title.
+            let cue = compare_cue(&[MORE, &book].concat(), &behind, 0);
+            let days = [&body[..2], &body[2..]].map(|day| 256 * u32::from(day[0]) + u32::from(day[1]));
+            let expected = if refusal == 0 { (0, 1, days[0], days[1], 12, 0, 19) } else { (refusal, 0, 0, 0, 0, 0, 0) };
+            let given = (cue.refusal, cue.dated, cue.first, cue.last, cue.title_start, cue.title_len, cue.end);
+            assert_eq!(given, expected, "length {length}, {present} bytes of {body:?}");
+        }
+    }
+    assert!([0, 7, 9, 16].iter().all(|&refusal| met[refusal] > 500), "the fields met too little: {met:?}");
+    report("every_field_of_dates", 2 * 6 * 10_000);
+}
+
+/// Each byte behind a title, alone and before a sound body: 4 alone is the cue's own.
+#[test]
+fn every_byte_behind_a_title() {
+    for cue in [Cue::new(b"la", 2, b"No"), Cue::new(b"a", 1, b""), Cue::new(&[4; PHRASE], 4, &[4; TITLE])] {
+        let end = cue.bytes().len();
+        for byte in 0..=255 {
+            for body in [&b""[..], b"\0", b"\0\x04", b"\0\x04\0\0\0", b"\0\x04\0\x01\x01\0", b"\0\x04\0\x01\x01\0\x04"] {
+                let read = compare_cue(&[&cue.bytes()[..], &[byte], body].concat(), MORE, 0);
+                let expected = match (byte, body.len()) {
+                    (4, 6..) => (0, 1, 1, 256, end + 7),
+                    (4, _) => (7, 0, 0, 0, 0),
+                    _ => (0, 0, 0, 0, end),
+                };
+                assert_eq!((read.refusal, read.dated, read.first, read.last, read.end), expected, "byte {byte} and {body:?} behind {cue:?}");
+            }
+        }
+    }
+    report("every_byte_behind_a_title", 3 * 256 * 6);
+}
+
+/// Any three bytes of the shortest cue with dates changed together, so that whole cues are read too, with their dates and without.
 #[test]
 fn every_three_bytes_of_a_cue() {
-    let mut met = [0; 14];
-    for third in 0..MORE.len() {
+    let mut met = [0; 17];
+    for third in 0..MORE_DATED.len() {
         for second in 0..third {
             for first in 0..second {
-                for number in 0..125 {
-                    let mut bytes = MORE.to_vec();
-                    for (place, byte) in [(first, number % 5), (second, number / 5 % 5), (third, number / 25)] {
-                        bytes[place] = [0, 1, 2, 3, 255][byte];
+                for number in 0..216 {
+                    let mut bytes = MORE_DATED.to_vec();
+                    for (place, byte) in [(first, number % 6), (second, number / 6 % 6), (third, number / 36)] {
+                        bytes[place] = BYTES[byte];
                     }
                     met[compare_cue(&bytes, MORE, 0).refusal as usize] += 1;
                 }
             }
         }
     }
-    assert!([0, 7, 8, 9].iter().all(|&refusal| met[refusal] > 20), "the cues met too little: {met:?}");
-    report("every_three_bytes_of_a_cue", 220 * 125);
+    assert!([0, 7, 8, 9, 16].iter().all(|&refusal| met[refusal] > 20), "the cues met too little: {met:?}");
+    report("every_three_bytes_of_a_cue", 969 * 216);
 }
 
 #[test]
 fn every_damage_of_one_byte() {
-    let mut met = [0; 14];
+    let mut met = [0; 17];
     for cues in samples() {
         let fields = field_places(&cues);
         each_damage(&mut book(&cues), |damaged| {
@@ -84,8 +151,8 @@ fn every_damage_of_one_byte() {
             }
         });
     }
-    assert!([0, 7, 8, 9].iter().all(|&refusal| met[refusal] > 500), "the damages met too little: {met:?}");
-    report("every_damage_of_one_byte", 255 * 1800 * 4);
+    assert!([0, 7, 8, 9, 16].iter().all(|&refusal| met[refusal] > 500), "the damages met too little: {met:?}");
+    report("every_damage_of_one_byte", 255 * 2400 * 4);
 }
 
 #[test]
@@ -102,15 +169,26 @@ fn every_end() {
                 assert_eq!(read.refusal, if end(index + 1) <= length { 0 } else { 7 }, "{length} bytes of {cues:?}, place {place}");
                 if due == 1 {
                     let read = compare_cue(cut, &behind, place);
-                    assert_eq!(read.refusal, if end(index + 3) <= length { 0 } else { 7 }, "{length} bytes of {cues:?}, place {place}");
+                    // A cue with dates is read without them where the book ends behind its title.
+                    let dated = fields.get(index + 3).is_some_and(|&(_, due)| due == 4);
+                    let (title_end, cue_end) = (end(index + 3), end(index + if dated { 4 } else { 3 }));
+                    let given = (read.refusal, read.dated, read.end);
+                    let expected = if cue_end <= length {
+                        (0, dated.into(), cue_end)
+                    } else if title_end == length {
+                        (0, 0, title_end)
+                    } else {
+                        (7, 0, 0)
+                    };
+                    assert_eq!(given, expected, "{length} bytes of {cues:?}, place {place}");
                 }
             }
             for place in places_past(length) {
-                assert_eq!(compare_all(cut, &behind, place), [7; 4], "{length} bytes of {cues:?}, place {place}");
+                assert_eq!(compare_all(cut, &behind, place), [7; 5], "{length} bytes of {cues:?}, place {place}");
             }
         }
     }
-    report("every_end", 1800 * (4 + 4 * 9));
+    report("every_end", 2400 * (4 + 5 * 9));
 }
 
 #[test]
@@ -123,22 +201,22 @@ fn every_place_with_every_due() {
                 let read = compare_field(&whole, MORE, place, due);
                 // Told without the reference: no byte is the tag of another number.
                 let present = whole.get(place..).is_some_and(|rest| rest.len() >= 3);
-                assert!((1..=3).contains(&due) || read.refusal == if present { 8 } else { 7 }, "place {place}, due {due}: {read:?}");
+                assert!((1..=4).contains(&due) || read.refusal == if present { 8 } else { 7 }, "place {place}, due {due}: {read:?}");
             }
         }
     }
-    report("every_place_with_every_due", 1800 * 16);
+    report("every_place_with_every_due", 2400 * 19);
 }
 
 /// Each field with any tag, length and end together, so that the order of the tests shows.
 #[test]
 fn every_tag_with_every_length() {
     for due in DUES {
-        for tag in [0, 1, 2, 3, 4, 128, 129, 255] {
-            for length in [0, 1, 2, 3, TITLE - 1, TITLE, TITLE + 1, 255, 256, 257, 512, PHRASE - 1, PHRASE, PHRASE + 1, 65_535] {
-                for byte in [0, b'x'] {
+        for tag in [0, 1, 2, 3, 4, 5, 128, 129, 255] {
+            for length in [0, 1, 2, 3, 4, 5, TITLE - 1, TITLE, TITLE + 1, 255, 256, 257, 512, PHRASE - 1, PHRASE, PHRASE + 1, 65_535] {
+                for byte in [0, b'x', 255] {
                     let whole = field(tag, length, &vec![byte; length]);
-                    for present in [0, 1, 2, 3, 4, 5, whole.len() - 1, whole.len()] {
+                    for present in [0, 1, 2, 3, 4, 5, 6, whole.len() - 1, whole.len()] {
                         let present = present.min(whole.len());
                         let before = [7; 5];
                         let book = [&before[..], &whole[..present]].concat();
@@ -151,13 +229,13 @@ fn every_tag_with_every_length() {
             }
         }
     }
-    report("every_tag_with_every_length", 15 * 8 * 15 * 2 * 8);
+    report("every_tag_with_every_length", 18 * 9 * 17 * 3 * 9);
 }
 
 #[test]
 fn random_books() {
     let mut random = Random::new(81);
-    let mut met = [0; 14];
+    let mut met = [0; 17];
     for _ in 0..5000 {
         let cues: Vec<Cue> = (0..random.between(1, 8)).map(|_| Cue::random(&mut random)).collect();
         let mut bytes = book(&cues);
@@ -165,14 +243,20 @@ fn random_books() {
         for cue in &cues {
             let raw = compare_cue(&bytes, MORE, place);
             let read = read_cue(&bytes, place).expect("the cue is read");
-            let parts = (read.phrase, read.ordinal, read.title, read.end);
-            assert_eq!(parts, (&cue.phrase[..], cue.ordinal, &cue.title[..], place + cue.bytes().len()), "place {place} of {cues:?}");
+            let parts = (read.phrase, read.ordinal, read.title, read.days, read.end);
+            let days = cue.days.map(|(first, last)| Days { first: first.into(), last: last.into() });
+            assert_eq!(parts, (&cue.phrase[..], cue.ordinal, &cue.title[..], days, place + cue.bytes().len()), "place {place} of {cues:?}");
+            assert!([0, 1, 256, 300, LAST_DAY].iter().all(|&day| read.plays(day.into()) == days.is_none_or(|days| days.contains(day.into()))));
             for (due, start, body) in [(Due::Phrase, place, read.phrase), (Due::Title, raw.title_start - 3, read.title)] {
                 let field = read_field(&bytes, start, due).expect("the field is read");
                 assert_eq!((field.body, field.end), (body, start + 3 + body.len()), "place {place} of {cues:?}");
             }
             let ordinal = read_field(&bytes, place + 3 + cue.phrase.len(), Due::Ordinal).expect("the field is read");
             assert_eq!(ordinal.body, cue.ordinal.to_be_bytes(), "place {place} of {cues:?}");
+            if let Some((first, last)) = cue.days {
+                let dates = read_field(&bytes, read.end - 7, Due::Dates).expect("the field is read");
+                assert_eq!((dates.body, dates.end), (&[first.to_be_bytes(), last.to_be_bytes()].concat()[..], read.end), "{cues:?}");
+            }
             place = read.end;
         }
         assert_eq!(read_cue(&bytes, place), Err(Refusal::CutField));
@@ -187,8 +271,8 @@ fn random_books() {
             }
         }
     }
-    assert!([0, 7, 8, 9].iter().all(|&refusal| met[refusal] > 500), "the changed books met too little: {met:?}");
-    report("random_books", 5000 * 2 * 7 * 4);
+    assert!([0, 7, 8, 9, 16].iter().all(|&refusal| met[refusal] > 500), "the changed books met too little: {met:?}");
+    report("random_books", 5000 * 2 * 7 * 5);
 }
 
 /// An empty vector's slice points to no memory at all.

@@ -3,16 +3,21 @@
 
 use libretto::{resolve, resolve_all, resolve_raw, Page, RawResolving, Refusal, ResolveError, ResolverMemory, Resolving, RESOLVER_SCRATCH};
 use libretto_tests::books::{book, Cue, MORE};
+use libretto_tests::evenings::NO_DAYS;
 use libretto_tests::pages::{unknown_pages, PAGES};
 use libretto_tests::{compare_resolve, report, Lengths, Random};
+
+/// The day on which cues are resolved here.
+const DAY: u32 = 9569;
 
 /// A cue's fault: 12 or 15, and the cue's index.
 type Fault = (u32, u32);
 
-/// A book with the answer of its reading, and the first cue that is at fault in a text of two or more letters a.
+/// A book with the answer of its reading, the number of its cues that play, and the first that is at fault in a text of two or more letters a.
 struct Case {
     book: Vec<u8>,
     read: (u32, u32),
+    playing: usize,
     fault: Option<Fault>,
 }
 
@@ -20,8 +25,12 @@ struct Case {
 /// instead.
 fn cases() -> Vec<Case> {
     let [first, second, missing] = [(&b"A"[..], 1), (b"A", 2), (b"b", 1)].map(|(phrase, ordinal)| Cue::new(phrase, ordinal, b"No"));
-    let case = |book, read, fault| Case { book, read, fault };
+    let case = |book, read: (u32, u32), fault| Case { book, read, playing: read.1 as usize, fault };
     let of = |cues: [&Cue; 2]| book(&cues.map(Cue::clone));
+    // Cues that do not play: a missing one, and one with days in no order.
+    let day = DAY as u16;
+    let off = missing.clone().on(day + 1, day + 1);
+    let bad = missing.clone().on(day + 2, day + 1);
     let pair = of([&missing, &first]);
     let start = missing.bytes().len();
     let changed = |place: usize, byte| {
@@ -39,18 +48,27 @@ fn cases() -> Vec<Case> {
         case(changed(start, 2), (8, 1), Some((12, 0))),
         case(changed(start + 1, 5), (9, 1), Some((12, 0))),
         case(changed(0, 3), (8, 0), Some((12, 0))),
+        case(of([&missing, &bad]), (16, 1), Some((12, 0))),
+        case(of([&bad, &missing]), (16, 0), Some((12, 1))),
+        Case { playing: 2, ..case(book(&[off.clone(), first.clone(), off.clone(), second.clone()]), (0, 4), None) },
+        Case { playing: 1, ..case(of([&off, &missing]), (0, 2), Some((12, 1))) },
+        Case { playing: 2, ..case(book(&[first.clone(), off.clone(), first.clone()]), (0, 3), Some((15, 2))) },
+        Case { playing: 0, ..case(of([&off, &off]), (0, 2), None) },
         case([missing.bytes(), MORE.repeat(998), vec![1]].concat(), (10, 999), Some((12, 0))),
         case([MORE.repeat(999), vec![1]].concat(), (10, 999), Some((15, 1))),
     ]
 }
 
-/// The answer by the words of document 01, and of document 02, (iv), which puts the page between scratch and copy, (vi), which counts the reads, and
-/// (vii), which puts 15 behind 12. All books that are not refused have one group, and the one without cues has none.
-fn due(page: u32, case: &Case, n: usize, lengths: Lengths) -> RawResolving {
+/// The answer by the words of document 01, and of document 02, (iv), which puts the page between scratch and copy, (vi), which counts the reads, (vii),
+/// which puts 15 behind 12, and (viii), which puts the day before all and takes the playing cues alone. All books that are not refused have one group,
+/// and those without cues that play have none.
+fn due(day: u32, page: u32, case: &Case, n: usize, lengths: Lengths) -> RawResolving {
     let refused = |refusal: Refusal| RawResolving { refusal: refusal.number(), number: 0, reads: 0 };
     let at_fault = |(refusal, cue)| RawResolving { refusal, number: cue, reads: n as u32 };
     let (refusal, number) = case.read;
-    if n > 32_768 {
+    if day > 36_524 {
+        refused(Refusal::BadDate)
+    } else if n > 32_768 {
         refused(Refusal::LongText)
     } else if lengths.scratch < 65_535 {
         refused(Refusal::ShortScratch)
@@ -60,20 +78,29 @@ fn due(page: u32, case: &Case, n: usize, lengths: Lengths) -> RawResolving {
         refused(Refusal::ShortBuffer)
     } else if refusal != 0 {
         RawResolving { refusal, number, reads: 0 }
-    } else if lengths.entries < 3 * number as usize {
+    } else if lengths.entries < 3 * case.playing {
         refused(Refusal::ShortEntries)
-    } else if n == 0 && number > 0 {
-        at_fault((12, 0))
+    } else if n == 0 && case.playing > 0 {
+        at_fault((12, case.first()))
     } else {
-        case.fault.map_or(RawResolving { refusal, number, reads: if number == 0 { 0 } else { n as u32 } }, at_fault)
+        let resolved = RawResolving { refusal, number: case.playing as u32, reads: if case.playing == 0 { 0 } else { n as u32 } };
+        case.fault.map_or(resolved, at_fault)
     }
 }
 
-/// A page of the two in turn, and an unknown one, meet every limit beside every other.
+impl Case {
+    /// The index of the first cue that plays, if one does: in these books the cues that do not play begin with the letter b and have days.
+    fn first(&self) -> u32 {
+        let cues = reference::cues(&self.book).expect("the book is sound");
+        cues.iter().position(|cue| cue.days.is_none()).expect("a cue plays") as u32
+    }
+}
+
+/// A page of the two in turn, and an unknown one, a day and a number that is none, meet every limit beside every other.
 #[test]
 fn every_limit_with_every_other() {
     let mut random = Random::new(61);
-    let mut met = [0; 16];
+    let mut met = [0; 17];
     let unknown = unknown_pages();
     let text = vec![b'a'; 40_000];
     for case in cases() {
@@ -82,10 +109,12 @@ fn every_limit_with_every_other() {
                 for scratch in [0, 65_534, 65_535, 65_536] {
                     for entries in [0, 3, 5, 6, 7] {
                         let lengths = Lengths { copy, scratch, entries };
-                        for page in [PAGES[random.below(2)], unknown[random.below(unknown.len())]] {
-                            let answer = compare_resolve(page, &case.book, &text[..n], lengths, random.next());
-                            let due = due(page, &case, n, lengths);
-                            assert_eq!(answer, due, "page {page}, {:?} in {n} letters, {lengths:?}", case.read);
+                        let (known, unknown) = (PAGES[random.below(2)], unknown[random.below(unknown.len())]);
+                        let none = NO_DAYS[random.below(NO_DAYS.len())];
+                        for (day, page) in [(DAY, known), (DAY, unknown), (none, [known, unknown][random.below(2)])] {
+                            let answer = compare_resolve(day, page, &case.book, &text[..n], lengths, random.next());
+                            let due = due(day, page, &case, n, lengths);
+                            assert_eq!(answer, due, "day {day}, page {page}, {:?} in {n} letters, {lengths:?}", case.read);
                             met[answer.refusal as usize] += 1;
                         }
                     }
@@ -93,8 +122,38 @@ fn every_limit_with_every_other() {
             }
         }
     }
-    assert!([0, 4, 5, 6, 7, 8, 9, 10, 11, 12, 14, 15].iter().all(|&refusal| met[refusal] > 30), "the calls met too little: {met:?}");
-    report("every_limit_with_every_other", 2 * 11 * 7 * 4 * 4 * 5);
+    assert!([0, 4, 5, 6, 7, 8, 9, 10, 11, 12, 14, 15, 16].iter().all(|&refusal| met[refusal] > 30), "the calls met too little: {met:?}");
+    report("every_limit_with_every_other", 3 * 17 * 7 * 4 * 4 * 5);
+}
+
+/// Every number that is no day, in calls that meet each other refusal besides, and in those that meet none: 16 comes first of all, with zeros. Each of
+/// these calls meets its other refusal on the last day.
+#[test]
+fn numbers_that_are_no_day_come_first() {
+    let mut random = Random::new(66);
+    let text = vec![b'a'; 32_769];
+    let enough = |n| Lengths::enough(n, 2);
+    let mut others = Vec::new();
+    for case in cases() {
+        for (page, n, lengths) in [
+            (1, 7, enough(7)),
+            (15, 32_769, enough(32_769)),
+            (1, 7, Lengths { scratch: 65_534, ..enough(7) }),
+            (2, 7, enough(7)),
+            (15, 7, Lengths { copy: 6, ..enough(7) }),
+            (1, 7, Lengths { entries: 2, ..enough(7) }),
+        ] {
+            let other = compare_resolve(DAY, page, &case.book, &text[..n], lengths, random.next()).refusal;
+            others.push(other);
+            for day in NO_DAYS {
+                let answer = compare_resolve(day, page, &case.book, &text[..n], lengths, random.next());
+                let due = RawResolving { refusal: 16, number: 0, reads: 0 };
+                assert_eq!(answer, due, "day {day}, which meets {other} too, page {page}, {:?} in {n} letters, {lengths:?}", case.read);
+            }
+        }
+    }
+    assert!([0, 4, 5, 6, 7, 8, 9, 10, 11, 12, 14, 15, 16].iter().all(|other| others.contains(other)), "the calls met too little: {others:?}");
+    report("numbers_that_are_no_day_come_first", 17 * 6 * 10);
 }
 
 /// Every unknown page in calls that meet one other refusal besides: 4 and 5 come before 14, and all others after it. Each of these calls meets its other
@@ -114,6 +173,7 @@ fn unknown_pages_between_scratch_and_copy() {
         (((8, 1), missing), 7, enough(7), 8),
         (((8, 0), missing), 7, enough(7), 8),
         (((9, 1), missing), 7, enough(7), 9),
+        (((16, 1), missing), 7, enough(7), 16),
         (((10, 999), missing), 7, enough(7), 10),
         (good, 7, Lengths { entries: 5, ..enough(7) }, 11),
         (((0, 2), missing), 7, enough(7), 12),
@@ -124,27 +184,28 @@ fn unknown_pages_between_scratch_and_copy() {
     for (kind, n, lengths, other) in calls {
         let case = cases().into_iter().find(|case| (case.read, case.fault) == kind).expect("there is a book of this kind");
         for page in PAGES {
-            let refusal = compare_resolve(page, &case.book, &text[..n], lengths, random.next()).refusal;
+            let refusal = compare_resolve(DAY, page, &case.book, &text[..n], lengths, random.next()).refusal;
             assert_eq!(refusal, other, "page {page}, {kind:?} in {n} letters, {lengths:?}");
         }
         let due = RawResolving { refusal: if [4, 5].contains(&other) { other } else { 14 }, number: 0, reads: 0 };
         for page in unknown_pages() {
-            let answer = compare_resolve(page, &case.book, &text[..n], lengths, random.next());
+            let answer = compare_resolve(DAY, page, &case.book, &text[..n], lengths, random.next());
             assert_eq!(answer, due, "page {page}, which meets {other} too, {kind:?} in {n} letters, {lengths:?}");
         }
     }
-    report("unknown_pages_between_scratch_and_copy", 13 * (2 + 305));
+    report("unknown_pages_between_scratch_and_copy", 14 * (2 + 305));
 }
 
-/// What a call by an unknown page leaves, without the reference.
+/// What a call by an unknown page, or on a number that is no day, leaves, without the reference.
 #[test]
-fn unknown_pages_write_nothing() {
-    for page in unknown_pages() {
+fn unknown_pages_and_days_write_nothing() {
+    let pages = unknown_pages().into_iter().map(|page| (DAY, page, 14));
+    for (day, page, refusal) in pages.chain(NO_DAYS.map(|day| (day, 1, 16))) {
         let (mut copy, mut scratch, mut entries) = ([7; 20], [7; 65_600], [7; 17]);
         let mut memory = ResolverMemory { copy: &mut copy, scratch: &mut scratch, entries: &mut entries };
-        let answer = resolve_raw(page, MORE, b"tralala", &mut memory);
-        assert_eq!(answer, RawResolving { refusal: 14, number: 0, reads: 0 }, "page {page}");
-        assert_eq!((copy, scratch, entries), ([7; 20], [7; 65_600], [7; 17]), "page {page}");
+        let answer = resolve_raw(day, page, MORE, b"tralala", &mut memory);
+        assert_eq!(answer, RawResolving { refusal, number: 0, reads: 0 }, "day {day}, page {page}");
+        assert_eq!((copy, scratch, entries), ([7; 20], [7; 65_600], [7; 17]), "day {day}, page {page}");
     }
 }
 
@@ -162,7 +223,7 @@ fn every_number_of_entries() {
             for entries in (0..3 * count + 3).rev().take(20).chain([0, count, 2 * count]) {
                 let lengths = Lengths { entries, ..Lengths::enough(text.len(), count) };
                 let page = PAGES[entries % 2];
-                let answer = compare_resolve(page, &book, &text, lengths, random.next());
+                let answer = compare_resolve(DAY, page, &book, &text, lengths, random.next());
                 let expected = if entries < 3 * count { (11, 0, 0) } else { enough };
                 assert_eq!((answer.refusal, answer.number, answer.reads), expected, "page {page}, {count} cues, {entries} entries");
             }
@@ -184,7 +245,7 @@ fn refuse_in_song(page: Page, count: usize, fault: usize, other: Cue, refusal: R
     changed[fault] = other;
     let (mut copy, mut scratch, mut entries) = ([7; 20], [7; 65_600], [7; 17]);
     let mut memory = ResolverMemory { copy: &mut copy, scratch: &mut scratch, entries: &mut entries };
-    let answer = resolve(page, &book(&changed), SONG, &mut memory);
+    let answer = resolve(DAY, page, &book(&changed), SONG, &mut memory);
     assert_eq!(answer, Err(ResolveError { refusal, cue: Some(fault) }), "{told}");
     let written: Vec<u32> = SONG_CUES[..fault].iter().flat_map(|cue| cue.2).collect();
     assert_eq!(entries[..3 * fault], written, "{told}: the earlier cues' entries");
@@ -226,7 +287,7 @@ fn places_that_do_not_rise() {
     });
     for (place, cue) in at.iter().enumerate() {
         for page in Page::ALL {
-            let found = resolve_all(page, &cue.bytes(), SONG).map(|places| places.iter().map(|at| at.place as usize).collect::<Vec<_>>());
+            let found = resolve_all(DAY, page, &cue.bytes(), SONG).map(|places| places.iter().map(|at| at.place as usize).collect::<Vec<_>>());
             assert_eq!(found, Ok(vec![place]), "{page:?}, {cue:?} alone");
         }
     }
@@ -238,10 +299,10 @@ fn slices_without_memory() {
     for page in Page::ALL {
         let (mut copy, mut scratch, mut entries) = (vec![], vec![7; RESOLVER_SCRATCH], vec![]);
         let mut memory = ResolverMemory { copy: &mut copy, scratch: &mut scratch, entries: &mut entries };
-        assert_eq!(resolve(page, &Vec::new(), &Vec::new(), &mut memory), Ok(Resolving { cues: 0, reads: 0 }));
+        assert_eq!(resolve(DAY, page, &Vec::new(), &Vec::new(), &mut memory), Ok(Resolving { cues: 0, reads: 0 }));
         assert_eq!(*memory.scratch, [0; RESOLVER_SCRATCH]);
-        assert_eq!(resolve(page, MORE, &Vec::new(), &mut memory), Err(ResolveError { refusal: Refusal::ShortEntries, cue: None }));
+        assert_eq!(resolve(DAY, page, MORE, &Vec::new(), &mut memory), Err(ResolveError { refusal: Refusal::ShortEntries, cue: None }));
         memory.scratch = &mut [];
-        assert_eq!(resolve(page, &Vec::new(), &Vec::new(), &mut memory), Err(ResolveError { refusal: Refusal::ShortScratch, cue: None }));
+        assert_eq!(resolve(DAY, page, &Vec::new(), &Vec::new(), &mut memory), Err(ResolveError { refusal: Refusal::ShortScratch, cue: None }));
     }
 }

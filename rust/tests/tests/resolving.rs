@@ -3,6 +3,7 @@
 
 use libretto::{fold_text, resolve_all, CuePlace, Page};
 use libretto_tests::books::{book, Cue, CUES, PHRASE};
+use libretto_tests::evenings::{all_playing, some_day};
 use libretto_tests::groups::{resolve, resolve_backward, resolve_missing, resolve_rising, resolve_to, Outcome};
 use libretto_tests::pages::{letters, PAGES};
 use libretto_tests::verses::{in_any_case, missing, not_behind, place_of, places, rising, total, verse, word, ALPHABETS};
@@ -81,7 +82,7 @@ fn refrains() {
 /// Every occurrence of a phrase as a cue of its own, up to the most cues; then the one after the last.
 fn every_occurrence(page: u32, phrase: &[u8], text: &[u8], random: &mut Random) {
     let in_a_case = |ordinal: usize| in_any_case(page, phrase, &mut Random::new(ordinal as u64));
-    let cue = |ordinal: usize| Cue { phrase: in_a_case(ordinal), ordinal: ordinal as u16, title: Vec::new() };
+    let cue = |ordinal: usize| Cue::new(&in_a_case(ordinal), ordinal as u16, b"");
     let total = total(page, phrase, text);
     let mut cues: Vec<Cue> = (1..=total.min(CUES)).map(cue).collect();
     resolve_rising(page, &cues, text, random);
@@ -211,7 +212,9 @@ fn french_and_finnish_texts() {
                 let cues: Vec<Cue> = (1..=total as u16 + 1).map(|ordinal| Cue::new(&form, ordinal, b"")).collect();
                 resolve_rising(page, &cues[..total], &text, &mut random);
                 resolve_missing(page, &cues, total, &text, &mut random);
-                let found = resolve_all(Page::from_number(page).expect("the page is known"), &book(&cues[..total]), &text);
+                let day = some_day(&mut random);
+                let playing = book(&all_playing(&cues[..total], day, &mut random));
+                let found = resolve_all(day.into(), Page::from_number(page).expect("the page is known"), &playing, &text);
                 assert_eq!(found, Ok(places), "page {page}, \"{}\"", form.escape_ascii());
             }
         }
@@ -235,7 +238,9 @@ fn texts_folded_beforehand() {
 
         let answers = [&text, &folded].map(|text| resolve(page.number(), &cues, text, &mut random));
         assert_eq!(answers[0], answers[1], "{page:?}, {cues:?} in \"{}\"", text.escape_ascii());
-        let places = [&text, &folded].map(|text| resolve_all(page, &book(&cues), text));
+        let day = some_day(&mut random);
+        let book = book(&all_playing(&cues, day, &mut random));
+        let places = [&text, &folded].map(|text| resolve_all(day.into(), page, &book, text));
         assert_eq!(places[0], places[1], "{page:?}, {cues:?} in \"{}\"", text.escape_ascii());
     }
     assert!(changed > 8000, "folding changed {changed} texts only");
@@ -246,7 +251,7 @@ fn texts_folded_beforehand() {
 fn places_lines_and_columns() {
     let places = |text: &[u8], phrase: &[u8], ordinal| {
         let by_page = |page| {
-            let found = resolve_all(page, &book(&[Cue::new(phrase, ordinal, b"")]), text);
+            let found = resolve_all(9569, page, &book(&[Cue::new(phrase, ordinal, b"")]), text);
             found.expect("the cue stands in the text").iter().map(|&CuePlace { place, line, column }| (place, line, column)).next()
         };
         let [by_1, by_15] = Page::ALL.map(by_page);

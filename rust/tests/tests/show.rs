@@ -1,7 +1,9 @@
-//! The programs for titling desks, as processes: `book` writes a cue book from a table, and `show` prints the show file, once in C and once over the
-//! safe interface, which must print the same. Both go by either page.
+//! The programs for titling desks, as processes: `book` writes a cue book from a table, and `show` prints the show file of a day, once in C and once over
+//! the safe interface, which must print the same. Both go by either page.
 
-use libretto_tests::books::{book, Cue, CUES};
+use libretto::date;
+use libretto_tests::books::{book, Cue, CUES, LAST_DAY};
+use libretto_tests::evenings::Evening;
 use libretto_tests::pages::{letters, sign, PAGES};
 use libretto_tests::programs::{c_example, repository, rust_example};
 use libretto_tests::verses::{self, place_of, places};
@@ -15,12 +17,24 @@ use std::sync::LazyLock;
 const HEAD: &str = "cue  place   line  column  title\n";
 const REFRAINS: &str = "\ntotal  phrase, and below it its places\n";
 
-const SHOW_USAGE: &str = "usage: show [--page 1|15] [--bytes] TEXT BOOK\n";
+const SHOW_USAGE: &str = "usage: show [--page 1|15] [--bytes] DAY TEXT BOOK\n";
 const BOOK_USAGE: &str = "usage: book [--page 1|15] [--bytes] < TABLE > BOOK\n";
 
 /// What is told of a cue that was looked for.
 const MISSING: &str = "the cue's occurrence does not exist";
 const NOT_FORWARD: &str = "the cue does not stand behind the cue before it";
+
+/// What is told of a cue's days that are refused.
+const BAD_DATE: &str = "a date is not in the calendar's 2000 to 2099, or the first day is after the last";
+
+/// The day of most tests, on which the first cast of the aria sings.
+const TODAY: &str = "2026-03-14";
+
+/// A day as the programs take it.
+fn written(day: u16) -> String {
+    let date = date(day.into()).expect("the day is in the calendar");
+    format!("{}-{:02}-{:02}", date.year, date.month, date.day)
+}
 
 /// The options that name a page. Page 1 need not be named.
 fn of_page(page: u32) -> [&'static str; 2] {
@@ -109,12 +123,18 @@ impl Desk {
         self.show_into(arguments, Stdio::piped)
     }
 
+    /// Shows this book in this text with these options on this day.
+    #[track_caller]
+    fn show_on(&self, options: &[&str], day: &str, text: &[u8], book: &[u8]) -> Left {
+        self.write("text", text);
+        self.write("book", book);
+        self.show(&[options, &[day, "text", "book"]].concat())
+    }
+
     /// Shows this book in this text with these options.
     #[track_caller]
     fn show_by(&self, options: &[&str], text: &[u8], book: &[u8]) -> Left {
-        self.write("text", text);
-        self.write("book", book);
-        self.show(&[options, &["text", "book"]].concat())
+        self.show_on(options, TODAY, text, book)
     }
 
     /// Shows this book in this text.
@@ -157,10 +177,15 @@ fn line_and_column(text: &[u8], place: usize) -> (usize, usize) {
     (lines.len(), lines[lines.len() - 1].chars().count() + 1)
 }
 
-/// The show file of cues that stand in the text, by brute force.
+/// The show file of cues that all play and stand in the text, by brute force.
 fn show_file(page: u32, text: &[u8], cues: &[Cue]) -> String {
+    show_file_of(page, text, &cues.iter().enumerate().collect::<Vec<_>>())
+}
+
+/// The show file of these cues, each with its index in the book.
+fn show_file_of(page: u32, text: &[u8], cues: &[(usize, &Cue)]) -> String {
     let mut file = HEAD.to_string();
-    for (index, cue) in cues.iter().enumerate() {
+    for (index, cue) in cues {
         let place = place_of(page, cue, text).expect("the cue stands in the text");
         let (line, column) = line_and_column(text, place);
         let row = format!("{index:3}  {place:5}  {line:5}  {column:6}  {}", shown(page, &cue.title));
@@ -168,7 +193,7 @@ fn show_file(page: u32, text: &[u8], cues: &[Cue]) -> String {
     }
     file += REFRAINS;
     let mut printed: Vec<Vec<usize>> = Vec::new();
-    for cue in cues {
+    for (_, cue) in cues {
         let places = places(page, &cue.phrase, text);
         // Phrases of cues that stand in the text are the same in any case exactly if they are of one length and have one list.
         let list = [&[cue.phrase.len()], &places[..]].concat();
@@ -199,6 +224,33 @@ fn the_aria() {
     // The aria has none of the letters by which the pages differ.
     desk.book(&["--page", "15"], &table).is(0, &made.out, "");
     desk.show_by(&["--page", "15"], &text, &made.out).is(0, &expected, "");
+}
+
+/// The two casts of the aria's end: on each day of March 2026 one of the two cues plays, on no day both, and on any other day neither.
+#[test]
+fn the_casts_of_the_aria() {
+    let desk = Desk::new("casts");
+    let (text, book) = (example("aria.txt"), example("aria.book"));
+    let aria = String::from_utf8(example("aria.show")).expect("the file is in UTF-8");
+    let [first, second] = [" 14    475     28       1  REVIENS, REVIENS, MA BARQUE,\n", " 15    475     28       1  Reviens, reviens, ma barque,\n"];
+    assert!(aria.contains(first), "{aria}");
+    let with = |row: &str| aria.replace(first, row);
+    // The refrain is that of earlier cues too, so that its list stays.
+    let neither = with("");
+    for (day, show) in [
+        ("2026-02-28", &neither),
+        ("2026-03-01", &aria),
+        ("2026-3-1", &aria),
+        ("2026-03-14", &aria),
+        ("2026-03-15", &with(second)),
+        ("2026-03-31", &with(second)),
+        ("2026-04-01", &neither),
+        ("2000-01-01", &neither),
+        ("2099-12-31", &neither),
+        ("2025-03-14", &neither),
+    ] {
+        desk.show_on(&[], day, &text, &book).is(0, show.as_bytes(), "");
+    }
 }
 
 const SONG: &str = "LE CHŒUR DE L'HAŸ\nMon cœur,\nMON CŒUR\ncoûte 5 €.\n";
@@ -269,13 +321,22 @@ fn random_verses() {
         let text = verses::verse(page, alphabet, length, &mut random);
         let count = random.between(0, 12.min(length));
         let cues = verses::rising(page, &text, count, 5, &mut random);
-        desk.show_by(&of_page(page), &text, &book(&cues)).is(0, show_file(page, &text, &cues).as_bytes(), "");
+        let evening = Evening::any(&cues, &mut random);
+        let playing: Vec<(usize, &Cue)> = evening.playing.iter().map(|&index| (index, &evening.cues[index])).collect();
+        let left = desk.show_on(&of_page(page), &written(evening.day), &text, &evening.book());
+        left.is(0, show_file_of(page, &text, &playing).as_bytes(), "");
 
-        let refused = |cue: &Cue| desk.show_by(&of_page(page), &text, &book(&[&cues[..], slice::from_ref(cue)].concat()));
-        let told = |cue: &Cue, why: &str| format!("book: cue {count}: {why}: ordinal {} of \"{}\"", cue.ordinal, shown(page, &cue.phrase));
+        // One more cue, which is at fault and has others around it that do not play.
+        let with = |cue: &Cue, random: &mut Random| Evening::any(&[&cues[..], slice::from_ref(cue)].concat(), random);
+        let refused = |evening: &Evening| desk.show_on(&of_page(page), &written(evening.day), &text, &evening.book());
+        let told = |evening: &Evening, cue: &Cue, why: &str| {
+            let index = evening.playing[count];
+            format!("book: cue {index}: {why}: ordinal {} of \"{}\"", cue.ordinal, shown(page, &cue.phrase))
+        };
         let missing = verses::missing(page, alphabet, &text, &mut random);
         let total = verses::total(page, &missing.phrase, &text);
-        refused(&missing).is_refusal(&format!("{}, total {total}\n", told(&missing, MISSING)));
+        let evening = with(&missing, &mut random);
+        refused(&evening).is_refusal(&format!("{}, total {total}\n", told(&evening, &missing, MISSING)));
 
         let Some(before) = cues.last().and_then(|last| place_of(page, last, &text)) else {
             continue;
@@ -283,10 +344,11 @@ fn random_verses() {
         let backward = verses::not_behind(page, &text, before, 5, &mut random);
         let at = place_of(page, &backward, &text).expect("the cue stands in the text");
         let [(line, column), (line_before, column_before)] = [at, before].map(|place| line_and_column(&text, place));
-        refused(&backward).is_refusal(&format!(
+        let evening = with(&backward, &mut random);
+        refused(&evening).is_refusal(&format!(
             "{} is at line {line}, column {column}, cue {} at line {line_before}, column {column_before}\n",
-            told(&backward, NOT_FORWARD),
-            count - 1
+            told(&evening, &backward, NOT_FORWARD),
+            evening.playing[count - 1]
         ));
     }
 }
@@ -328,6 +390,9 @@ fn nothing_to_show() {
     desk.show_of(b"la la", b"").is(0, no_cues.as_bytes(), "");
     let missing = "book: cue 0: the cue's occurrence does not exist: ordinal 1 of \"la\", total 0\n";
     desk.show_of(b"", &book(&[Cue::new(b"la", 1, b"")])).is_refusal(missing);
+    // A book of which no cue plays.
+    let ended = book(&[Cue::new(b"la", 1, b"").on(0, 0), Cue::new(b"so", 1, b"").on(0, 1)]);
+    desk.show_of(b"la la", &ended).is(0, no_cues.as_bytes(), "");
     desk.book(&[], b"").is(0, b"", "");
     desk.book(&[], b"# no cue\n\n\r\n#").is(0, b"", "");
 }
@@ -352,12 +417,17 @@ fn limits() {
     let longest: Vec<Cue> = text.windows(1024).map(|phrase| Cue::new(phrase, 1, &[b'T'; 200])).collect();
     desk.show_of(&text, &book(&longest)).is(0, show_file(1, &text, &longest).as_bytes(), "");
     desk.show_of(&text, &[&book(&longest)[..], &[1]].concat()).is_refusal(too_many);
+    let dated: Vec<Cue> = longest.into_iter().map(|cue| cue.on(0, LAST_DAY)).collect();
+    desk.show_of(&text, &book(&dated)).is(0, show_file(1, &text, &dated).as_bytes(), "");
+    desk.show_of(&text, &[&book(&dated)[..], &[4]].concat()).is_refusal(too_many);
 
     let line = |number: &String| format!("1\t{number}\t\n");
     desk.book(&[], numbers[..CUES].iter().map(line).collect::<String>().as_bytes()).is(0, &book(&cues[..CUES]), "");
     desk.book(&[], numbers.iter().map(line).collect::<String>().as_bytes()).is_refusal("line 1000: the book has 999 cues already\n");
-    let longest = format!("65535\t{}\t{}\r\n", "\\xE0".repeat(1024), "\\x5C".repeat(200));
-    desk.book(&[], longest.as_bytes()).is(0, &book(&[Cue::new(&[0xe0; 1024], 65_535, &[b'\\'; 200])]), "");
+    let longest = format!("65535\t{}\t{}", "\\xE0".repeat(1024), "\\x5C".repeat(200));
+    let cue = Cue::new(&[0xe0; 1024], 65_535, &[b'\\'; 200]);
+    desk.book(&[], format!("{longest}\r\n").as_bytes()).is(0, &book(slice::from_ref(&cue)), "");
+    desk.book(&[], format!("{longest}\t2000-01-01\t2099-12-31\r\n").as_bytes()).is(0, &book(&[cue.on(0, LAST_DAY)]), "");
 }
 
 #[test]
@@ -372,7 +442,11 @@ fn damaged_books() {
         (damaged(54, 3), "cue 1: a field's tag is not the one due"),
         (damaged(18, 0), "cue 0: a field's length is not allowed, or the ordinal is not from 1 to 65,535"),
         (damaged(16, 3), "cue 0: a field's length is not allowed, or the ordinal is not from 1 to 65,535"),
-        ([&good[..], &[0]].concat(), "cue 17: the book ends inside a field"),
+        ([&good[..], &[0]].concat(), "cue 18: the book ends inside a field"),
+        ([&good[..], &[4]].concat(), "cue 17: the book ends inside a field"),
+        ([&good[..54], b"\x04\x00\x05"].concat(), "cue 0: a field's length is not allowed, or the ordinal is not from 1 to 65,535"),
+        ([&good[..54], b"\x04\x00\x04\x00\x00\x8e\xad"].concat(), &format!("cue 0: {BAD_DATE}")),
+        ([&good[..54], b"\x04\x00\x04\x00\x01\x00\x00", &good[54..]].concat(), &format!("cue 0: {BAD_DATE}")),
     ];
     for (book, told) in cases {
         desk.show_of(&text, &book).is_refusal(&format!("book: {told}\n"));
@@ -389,7 +463,8 @@ fn damaged_books() {
 fn refused_tables() {
     let long_title = format!("1\tla\t{}", "b".repeat(201));
     let [long_phrase, long_line] = [1025, 5000].map(|letters| format!("1\t{}\tNo", "a".repeat(letters)));
-    let not_a_line = "the line is not ordinal, TAB, phrase, TAB, title";
+    let not_a_line = "the line is not ordinal, TAB, phrase, TAB, title, with or without TAB, first day, TAB, last day";
+    let [not_written, not_a_date] = ["a day is not written as year-month-day, as in 2026-03-14", "a date is not in the calendar's 2000 to 2099"];
     let bad_field = "the ordinal is not from 1 to 65,535, or the title has more than 200 letters";
     let no_letter = "a letter is not in ISO 8859-1, or the table is not in UTF-8";
     let no_byte = "a backslash begins none of \\n, \\xNN and \\\\";
@@ -412,6 +487,28 @@ fn refused_tables() {
         ("1\tla\t\\x4", no_byte),
         ("1\tla\t\\xg4", no_byte),
         ("1\tla\t\\x4g", no_byte),
+        ("1\tla\tNo\t2026-03-14", not_a_line),
+        ("1\tla\tNo\t2026-03-14\t2026-03-15\t", not_a_line),
+        ("1\tla\tNo\t2026-03-14\t", not_written),
+        ("1\tla\tNo\t\t2026-03-14", not_written),
+        ("1\tla\tNo\t2026-03\t2026-03-15", not_written),
+        ("1\tla\tNo\t2026-03-14-\t2026-03-15", not_written),
+        ("1\tla\tNo\t2026-03-14\t2026-03-15-01", not_written),
+        ("1\tla\tNo\t2026/03/14\t2026-03-15", not_written),
+        ("1\tla\tNo\t2026-+3-14\t2026-03-15", not_written),
+        ("1\tla\tNo\t 2026-03-14\t2026-03-15", not_written),
+        ("1\tla\tNo\t--\t2026-03-15", not_written),
+        ("1\tla\tNo\t2026-02-29\t2026-03-15", not_a_date),
+        ("1\tla\tNo\t2026-02-28\t2026-02-29", not_a_date),
+        ("1\tla\tNo\t1999-12-31\t2026-03-15", not_a_date),
+        ("1\tla\tNo\t2026-03-15\t2100-01-01", not_a_date),
+        ("1\tla\tNo\t4294969322-03-14\t2026-03-15", not_a_date),
+        ("1\tla\tNo\t2026-03-4294967310\t2026-03-15", not_a_date),
+        ("1\tla\tNo\t2026-00-14\t2026-03-15", not_a_date),
+        ("1\tla\tNo\t2026-03-15\t2026-03-14", "the first day is after the last"),
+        // What is told is the first fault from the line's front.
+        ("0\tla\tNo\t2026-03-15\t2026-02-30", not_a_date),
+        ("x\tla\tNo\t2026-03-15\t2026-02-30", "the ordinal is not a number"),
     ];
     // All in one table, with a good line after each, so that every refused line is told and no book is written.
     let table: String = cases.iter().map(|(line, _)| format!("{line}\n1\tla\tNo\r\n")).collect();
@@ -420,6 +517,69 @@ fn refused_tables() {
     desk.book(&[], table.as_bytes()).is_refusal(&told);
     desk.book(&[], b"1\tl\xe0\tNo").is_refusal(&format!("line 1: {no_letter}\n"));
     desk.book(&["--bytes"], b"1\tl\xe0\tNo").is(0, &book(&[Cue::new(b"l\xe0", 1, b"No")]), "");
+}
+
+/// Lines with days, at the calendar's ends and around the end of a February, with numbers written in other lengths, and with empty columns.
+#[test]
+fn tables_with_days() {
+    let desk = Desk::new("days");
+    let cue = |days: Option<(u16, u16)>| Cue { days, ..Cue::new(b"la", 1, b"No") };
+    let cases = [
+        ("1\tla\tNo", None),
+        ("1\tla\tNo\t\t", None),
+        ("1\tla\tNo\t2000-01-01\t2000-01-01", Some((0, 0))),
+        ("1\tla\tNo\t2000-01-01\t2099-12-31", Some((0, 36_524))),
+        ("1\tla\tNo\t2099-12-31\t2099-12-31", Some((36_524, 36_524))),
+        ("1\tla\tNo\t2000-02-29\t2000-03-01", Some((59, 60))),
+        ("1\tla\tNo\t2000-2-29\t2000-3-1", Some((59, 60))),
+        ("1\tla\tNo\t02000-0002-29\t2000-000000000000003-01", Some((59, 60))),
+        ("1\tla\tNo\t2026-03-14\t2026-03-14", Some((9569, 9569))),
+    ];
+    let table: String = cases.iter().map(|(line, _)| format!("{line}\r\n")).collect();
+    desk.book(&[], table.as_bytes()).is(0, &book(&cases.map(|(_, days)| cue(days))), "");
+    desk.book(&["--bytes", "--page", "15"], table.as_bytes()).is(0, &book(&cases.map(|(_, days)| cue(days))), "");
+    // An empty title before the days.
+    desk.book(&[], b"1\tla\t\t2000-01-02\t2000-01-03").is(0, &book(&[Cue::new(b"la", 1, b"").on(1, 2)]), "");
+}
+
+/// Days that are told to `show`: those that the calendar has, those that it does not have, and what is no day at all.
+#[test]
+fn days_to_show() {
+    let desk = Desk::new("day");
+    let song = book(&[Cue::new(b"la", 1, b"No").on(59, 60), Cue::new(b"la", 1, b"Yes").on(61, LAST_DAY), Cue::new(b"la", 2, b"")]);
+    let show = |cues: &[usize]| {
+        let rows = ["  0      0      1       1  No\n", "  1      0      1       1  Yes\n", "  2      3      1       4\n"];
+        let rows: String = cues.iter().map(|&cue| rows[cue]).collect();
+        format!("{HEAD}{rows}{REFRAINS}    2  \"la\"\n           0      3\n")
+    };
+    for (day, cues) in [
+        ("2000-01-01", &[2][..]),
+        ("2000-02-28", &[2]),
+        ("2000-02-29", &[0, 2]),
+        ("2000-2-29", &[0, 2]),
+        ("02000-00002-29", &[0, 2]),
+        ("2000-03-01", &[0, 2]),
+        ("2000-03-02", &[1, 2]),
+        ("2099-12-31", &[1, 2]),
+    ] {
+        desk.show_on(&[], day, b"la la", &song).is(0, show(cues).as_bytes(), "");
+        desk.show_on(&["--page", "15", "--bytes"], day, b"la la", &song).is(0, show(cues).as_bytes(), "");
+    }
+    // A date that the calendar does not have is told before any file is read.
+    let none =
+        ["1999-12-31", "2100-01-01", "2001-02-29", "2000-02-30", "2000-04-31", "2000-00-01", "2000-13-01", "2000-01-00", "2000-01-32", "0-0-0"];
+    let large = ["4294969296-01-01", "2000-4294967297-01", "2000-01-4294967297", "99999999999999999999-01-01", "2000-01-99999999999999999999"];
+    for day in none.into_iter().chain(large) {
+        let told = format!("{day}: the date is not in the calendar's 2000 to 2099\n");
+        desk.show_on(&[], day, b"la la", &song).is_refusal(&told);
+        desk.show(&[day, "absent", "absent"]).is_refusal(&told);
+    }
+    let not_written = ["", "today", "2000", "2000-01", "2000-01-", "-01-01", "2000--01", "2000-01-01-", "2000-01-01-01", "2000/01/01", "20000101"];
+    let signed =
+        ["+2000-01-01", "2000-+1-01", "-2000-01-01", " 2000-01-01", "2000-01-01 ", "2000-01-01\n", "0x7d0-1-1", "2000-01-1x", "２０００-01-01"];
+    for day in not_written.into_iter().chain(signed) {
+        desk.show_on(&[], day, b"la la", &song).is_failure(SHOW_USAGE);
+    }
 }
 
 /// What is told of a line that has a letter which is not on the page.
@@ -510,12 +670,12 @@ fn table_of(show: &[u8]) -> Vec<u8> {
 fn files_that_fail() {
     let desk = Desk::new("files");
     desk.show_of(b"la", b"");
-    desk.show(&["absent", "book"]).is_failure("absent: No such file or directory\n");
-    desk.show(&["text", "absent"]).is_failure("absent: No such file or directory\n");
-    desk.show(&[".", "book"]).is_failure(".: Is a directory\n");
+    desk.show(&[TODAY, "absent", "book"]).is_failure("absent: No such file or directory\n");
+    desk.show(&[TODAY, "text", "absent"]).is_failure("absent: No such file or directory\n");
+    desk.show(&[TODAY, ".", "book"]).is_failure(".: Is a directory\n");
 
     let full = || File::options().write(true).open("/dev/full").expect("the full device opens").into();
-    desk.show_into(&["text", "book"], full).is_failure("standard output: No space left on device\n");
+    desk.show_into(&[TODAY, "text", "book"], full).is_failure("standard output: No space left on device\n");
     let folder = || File::open(&desk.0).expect("the folder opens").into();
     desk.run(&PROGRAMS.book, &[], folder(), Stdio::piped()).is_failure("standard input: Is a directory\n");
 }
@@ -525,8 +685,17 @@ fn files_that_fail() {
 fn wrong_calls() {
     let desk = Desk::new("calls");
     desk.show_of(b"la", b"").is(0, [HEAD, REFRAINS].concat().as_bytes(), "");
-    let files: [&[&str]; 7] =
-        [&[], &["text"], &["--bytes", "text"], &["--page", "15", "text"], &["text", "book", "more"], &["text", "book", "--bytes"], &["--bytes"]];
+    let files: [&[&str]; 9] = [
+        &[],
+        &[TODAY],
+        &[TODAY, "text"],
+        &["text", "book"],
+        &["--bytes", TODAY, "text"],
+        &["--page", "15", TODAY, "text"],
+        &[TODAY, "text", "book", "more"],
+        &[TODAY, "text", "book", "--bytes"],
+        &[TODAY, "--bytes", "text", "book"],
+    ];
     for arguments in files {
         desk.show(arguments).is_failure(SHOW_USAGE);
     }
@@ -539,12 +708,12 @@ fn wrong_calls() {
     let twice = [vec!["--bytes", "--bytes"], vec!["--page", "15", "--page", "15"], vec!["--page", "1", "--bytes", "--page", "1"]];
     let unknown = [vec!["--latin1"], vec!["--page=15"], vec!["--"], vec!["--bytes", "--help"], vec!["--pages", "15"]];
     for options in wrong_pages.chain(twice).chain(unknown) {
-        for files in [&["text", "book"][..], &[]] {
+        for files in [&[TODAY, "text", "book"][..], &[]] {
             desk.show(&[&options, files].concat()).is_failure(SHOW_USAGE);
         }
         desk.book(&options, b"").is_failure(BOOK_USAGE);
     }
     desk.book(&["--page"], b"").is_failure(BOOK_USAGE);
     desk.show(&["--page"]).is_failure(SHOW_USAGE);
-    desk.show(&["text", "book", "--page"]).is_failure(SHOW_USAGE);
+    desk.show(&[TODAY, "text", "book", "--page"]).is_failure(SHOW_USAGE);
 }
