@@ -1,5 +1,5 @@
-/* Resolving a cue book in groups of consecutive cues, as many as fit into 64 cues and 4,096 phrase bytes: one automaton over a group's folded phrases
- * reads each letter of the folded text once.
+/* Resolving the cues of a book that play on a day, in groups of as many one after another as fit into 64 cues and 4,096 phrase bytes: one automaton over
+ * a group's folded phrases reads each letter of the folded text once.
  *
  * The automaton lies in the scratch. First come its states, eight entries each, as struct state has them; then a class for each of the 256 letters,
  * 0 for the letters that no phrase of the group has; and then, for as many of the first states as there is room for, a row with the next state for
@@ -30,11 +30,17 @@ struct automaton {
     size_t states_len, width, rows_len; /* width is the entries of a row; the states below rows_len have one */
 };
 
-/* The cues of a group, each with its phrase and its length, the occurrences still to come, and its place. */
+/* The cues of a group, each with its index in the book, its phrase and its length, the occurrences still to come, and its place. */
 struct group {
     size_t len;
     const uint8_t *phrases[GROUP_CUES];
-    uint32_t lengths[GROUP_CUES], left[GROUP_CUES], places[GROUP_CUES];
+    uint32_t indices[GROUP_CUES], lengths[GROUP_CUES], left[GROUP_CUES], places[GROUP_CUES];
+};
+
+/* How far a book has been taken: the place and the index of the next cue. */
+struct taken {
+    size_t place;
+    uint32_t index;
 };
 
 /* A place with its line, and where that line starts; and the least place that the next cue may have, since the cues run forward. */
@@ -57,27 +63,45 @@ static inline void join(struct state *state, uint64_t bits)
     memcpy(state->ended, &bits, sizeof bits);
 }
 
-/* Takes the cues of the next group from a book that has been tested, and gives the place behind them. */
-static size_t take_group(struct group *group, const uint8_t *book, size_t book_len, size_t place)
+/* Takes the playing cues of the next group from a book that has been tested, and passes over the others up to the first playing one of the group
+ * behind. */
+static void take_group(struct group *group, uint32_t day, const uint8_t *book, size_t book_len, struct taken *taken)
 {
     size_t bytes = 0;
 
     group->len = 0;
-    while (place < book_len && group->len < GROUP_CUES) {
-        const uint8_t *phrase = book + place + 3;
-        size_t length = (size_t)phrase[-2] << 8 | phrase[-1], k = group->len;
+    while (taken->place < book_len) {
+        const uint8_t *phrase = book + taken->place + 3;
+        size_t length = twin_number(phrase - 2), k = group->len;
         const uint8_t *ordinal = phrase + length + 3, *title = ordinal + 5;
-        bytes += length;
-        if (bytes > GROUP_BYTES)
-            break;
-        group->phrases[k] = phrase;
-        group->lengths[k] = (uint32_t)length;
-        group->left[k] = (uint32_t)ordinal[0] << 8 | ordinal[1];
-        group->places[k] = NOWHERE;
-        group->len++;
-        place = (size_t)(title - book) + ((size_t)title[-2] << 8 | title[-1]);
+        size_t end = (size_t)(title - book) + twin_number(title - 2);
+        if (twin_plays(book, book_len, &end, day)) {
+            bytes += length;
+            if (k == GROUP_CUES || bytes > GROUP_BYTES)
+                return;
+            group->indices[k] = taken->index;
+            group->phrases[k] = phrase;
+            group->lengths[k] = (uint32_t)length;
+            group->left[k] = twin_number(ordinal);
+            group->places[k] = NOWHERE;
+            group->len++;
+        }
+        taken->place = end;
+        taken->index++;
     }
-    return place;
+}
+
+/* The number of cues that play, in a book that has been tested. */
+static uint32_t count_playing(uint32_t day, const uint8_t *book, size_t book_len)
+{
+    uint32_t playing = 0;
+
+    for (size_t place = 0; place < book_len;) {
+        for (int field = 0; field < 3; field++)
+            place += 3 + twin_number(book + place + 1);
+        playing += (uint32_t)twin_plays(book, book_len, &place, day);
+    }
+    return playing;
 }
 
 /* The child of a state by this letter; it is made if there is none, and holds its parent as its fail link until that is known. */
@@ -235,16 +259,16 @@ static void move_on(struct position *at, const uint8_t *text, size_t place)
         at->start--;
 }
 
-/* Writes the entries of a group's cues up to the first that has no place, or one that is not above the last one's: 0 or the refusal, and how many
- * were written. */
+/* Writes the entries of a group's cues up to the first that has no place, or one that is not above the last one's: 0 and how many were written, or the
+ * refusal and the cue's index. */
 static struct twin_answer write_entries(const struct group *group, const uint8_t *text, struct position *at, uint32_t *restrict entries)
 {
     for (uint32_t k = 0; k < group->len; k++) {
         uint32_t place = group->places[k];
         if (place == NOWHERE)
-            return (struct twin_answer){NO_OCCURRENCE, k};
+            return (struct twin_answer){NO_OCCURRENCE, group->indices[k]};
         if (place < at->least)
-            return (struct twin_answer){NOT_FORWARD, k};
+            return (struct twin_answer){NOT_FORWARD, group->indices[k]};
         move_on(at, text, place);
         entries[3 * k] = place;
         entries[3 * k + 1] = at->line;
@@ -263,28 +287,31 @@ static void fold_text(uint32_t page, const uint8_t *restrict text, size_t n, uin
             copy[i] = twin_page_15[text[i]];
 }
 
-struct twin_resolving twin_resolve(uint32_t page, const uint8_t *book, size_t book_len, const uint8_t *text, size_t n, uint8_t *restrict copy,
-                                   uint16_t *restrict scratch, size_t scratch_len, uint32_t *restrict entries, size_t entries_len)
+struct twin_resolving twin_resolve(uint32_t day, uint32_t page, const uint8_t *book, size_t book_len, const uint8_t *text, size_t n,
+                                   uint8_t *restrict copy, uint16_t *restrict scratch, size_t scratch_len, uint32_t *restrict entries,
+                                   size_t entries_len)
 {
     struct twin_answer read = twin_read_cues(book, book_len);
     struct position at = {0, 0, 0, 1};
+    struct taken taken = {0, 0};
     struct group group;
-    uint32_t cue = 0, reads = 0;
+    uint32_t resolved = 0, reads = 0;
 
     if (read.refusal != 0)
         return (struct twin_resolving){read.refusal, read.number, 0};
-    if (entries_len < (size_t)3 * read.number)
+    uint32_t playing = count_playing(day, book, book_len);
+    if (entries_len < (size_t)3 * playing)
         return (struct twin_resolving){SHORT_ENTRIES, 0, 0};
     fold_text(page, text, n, copy);
     memset(scratch, 0, scratch_len * sizeof *scratch);
-    for (size_t place = 0; place < book_len;) {
-        place = take_group(&group, book, book_len, place);
+    while (resolved < playing) {
+        take_group(&group, day, book, book_len, &taken);
         find_group(&group, page == 1 ? twin_page_1 : twin_page_15, copy, n, scratch, scratch_len);
         reads += (uint32_t)n;
-        struct twin_answer written = write_entries(&group, text, &at, entries + 3 * cue);
-        cue += written.number;
+        struct twin_answer written = write_entries(&group, text, &at, entries + 3 * resolved);
         if (written.refusal != 0)
-            return (struct twin_resolving){written.refusal, cue, reads};
+            return (struct twin_resolving){written.refusal, written.number, reads};
+        resolved += written.number;
     }
-    return (struct twin_resolving){0, cue, reads};
+    return (struct twin_resolving){0, resolved, reads};
 }

@@ -4,7 +4,14 @@
 
 #include "twins.h"
 
-enum { TWIN_CUT_FIELD = 7, TWIN_WRONG_TAG = 8, TWIN_BAD_FIELD = 9, TWIN_LONG_BOOK = 10, TWIN_CUES_MAX = 999 };
+enum { TWIN_CUT_FIELD = 7, TWIN_WRONG_TAG = 8, TWIN_BAD_FIELD = 9, TWIN_LONG_BOOK = 10, TWIN_BAD_DATE = 16 };
+enum { TWIN_CUES_MAX = 999, TWIN_DAY_MAX = 36524, TWIN_DATES = 4 };
+
+/* The number that two bytes of a book write, high byte first. */
+static inline uint32_t twin_number(const uint8_t *bytes)
+{
+    return (uint32_t)bytes[0] << 8 | bytes[1];
+}
 
 /* Tests the field at *place, moves *place behind it, and gives 0 or the refusal. */
 static inline uint32_t twin_read_field(const uint8_t *book, size_t book_len, size_t *place, uint8_t tag, size_t least, size_t most)
@@ -16,13 +23,15 @@ static inline uint32_t twin_read_field(const uint8_t *book, size_t book_len, siz
         return TWIN_CUT_FIELD;
     if (field[0] != tag)
         return TWIN_WRONG_TAG;
-    size_t length = (size_t)field[1] << 8 | field[2];
+    size_t length = twin_number(field + 1);
     if (length < least || length > most)
         return TWIN_BAD_FIELD;
     if (left - 3 < length)
         return TWIN_CUT_FIELD;
     if (tag == 2 && field[3] == 0 && field[4] == 0)
         return TWIN_BAD_FIELD;
+    if (tag == TWIN_DATES && (twin_number(field + 5) > TWIN_DAY_MAX || twin_number(field + 3) > twin_number(field + 5)))
+        return TWIN_BAD_DATE;
     *place += 3 + length;
     return 0;
 }
@@ -34,7 +43,20 @@ static inline uint32_t twin_read_cue(const uint8_t *book, size_t book_len, size_
         refusal = twin_read_field(book, book_len, place, 2, 2, 2);
     if (refusal == 0)
         refusal = twin_read_field(book, book_len, place, 3, 0, 200);
+    if (refusal == 0 && *place < book_len && book[*place] == TWIN_DATES)
+        refusal = twin_read_field(book, book_len, place, TWIN_DATES, 4, 4);
     return refusal;
+}
+
+/* Whether a cue plays on this day, of which the place behind its title is given; moves that place behind its dates if it has them. */
+static inline int twin_plays(const uint8_t *book, size_t book_len, size_t *place, uint32_t day)
+{
+    const uint8_t *dates = book + *place;
+
+    if (*place == book_len || dates[0] != TWIN_DATES)
+        return 1;
+    *place += 7;
+    return twin_number(dates + 3) <= day && day <= twin_number(dates + 5);
 }
 
 /* Tests the whole book. */

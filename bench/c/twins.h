@@ -57,14 +57,16 @@ struct twin_answer twin_relist(const uint8_t *phrase, size_t m, const uint8_t *t
 
 struct twin_answer twin_read_book(const uint8_t *book, size_t book_len);
 
-/* A refusal or 0, the number of cues or the index of the refused one, and the letters of the text read. */
+/* A refusal or 0, the number of playing cues or the index of the refused one, and the letters of the text read. */
 struct twin_resolving {
     uint32_t refusal, number, reads;
 };
 
-/* The places, lines and columns of a book's cues by page 1 or 15, with a copy of at least n bytes and a scratch of at least 65,535 entries. */
-struct twin_resolving twin_resolve(uint32_t page, const uint8_t *book, size_t book_len, const uint8_t *text, size_t n, uint8_t *restrict copy,
-                                   uint16_t *restrict scratch, size_t scratch_len, uint32_t *restrict entries, size_t entries_len);
+/* The places, lines and columns of the cues of a book that play on a day, by page 1 or 15, with a copy of at least n bytes and a scratch of at least
+ * 65,535 entries. */
+struct twin_resolving twin_resolve(uint32_t day, uint32_t page, const uint8_t *book, size_t book_len, const uint8_t *text, size_t n,
+                                   uint8_t *restrict copy, uint16_t *restrict scratch, size_t scratch_len, uint32_t *restrict entries,
+                                   size_t entries_len);
 
 /* Folds n letters by page 15 into a target of as many. */
 void twin_fold(const uint8_t *restrict text, size_t n, uint8_t *restrict target);

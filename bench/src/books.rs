@@ -7,11 +7,18 @@ use crate::random::Random;
 use crate::statistics::least;
 use crate::texts::{Family, Text};
 use crate::twins::{Build, BUILDS};
-use libretto::{find_raw, fold_text, read_book_raw, resolve_raw, write_cue, Method, Page, ResolverMemory, CUES_MAX, CUE_MAX, TEXT_MAX};
+use libretto::{find_raw, fold_text, read_book_raw, resolve_raw, write_cue, Days, Method, Page, ResolverMemory, CUES_MAX, CUE_MAX, TEXT_MAX};
 use std::hint::black_box;
 
 /// The page that cues are resolved by: the verse is in ISO 8859-1.
 const PAGE: Page = Page::Latin1;
+
+/// The day that cues are resolved for, on which all of them play, and the day after it, on which those do not that have days.
+pub const DAY: u32 = 9569;
+const NEXT_DAY: u32 = DAY + 1;
+
+/// The days of every second cue.
+const DAYS: Days = Days { first: 9556, last: DAY };
 
 /// The text that the cues stand in, as it is and folded.
 pub struct Libretto {
@@ -39,7 +46,8 @@ impl Libretto {
     }
 }
 
-/// A book of 999 cues that stand in the text, evenly spread and rising, as the cues of a performance do.
+/// A book of 999 cues that stand in the text, evenly spread and rising, as the cues of a performance do. Every second one has days, so that the reading of
+/// these is in its times.
 pub struct Book {
     /// The lengths of its phrases, in words.
     pub phrases: &'static str,
@@ -70,12 +78,13 @@ impl Book {
     fn push(&mut self, phrase: &[u8], ordinal: usize, title: &[u8]) {
         let mut cue = [0; CUE_MAX];
         let number = u32::try_from(ordinal).expect("an ordinal is at most the text's length");
-        let length = write_cue(&mut cue, phrase, number, title).expect("the cue keeps the limits");
+        let days = (self.ordinals.len() % 2 == 1).then_some(DAYS);
+        let length = write_cue(&mut cue, phrase, number, title, days).expect("the cue keeps the limits");
         self.bytes.extend_from_slice(&cue[..length]);
         self.ordinals.push(ordinal);
     }
 
-    /// The groups that its cues are resolved in.
+    /// The groups that its cues are resolved in, all of which play.
     pub fn groups(&self) -> usize {
         reference::groups(&reference::cues(&self.bytes).expect("the book keeps the limits")).len()
     }
@@ -102,7 +111,10 @@ impl Book {
         for length in 0..front.len() {
             let mut changed = front.to_vec();
             changed[length] ^= 3;
-            for damaged in [&front[..length], &changed] {
+            // A title becomes dates, and dates a byte that begins no cue; and days come after the last one.
+            let mut other = front.to_vec();
+            other[length] ^= 0x87;
+            for damaged in [&front[..length], &changed, &other] {
                 let raw = read_book_raw(damaged);
                 check_reading(damaged, (raw.refusal, raw.number));
             }
@@ -111,43 +123,49 @@ impl Book {
 
     /// The book's bytes with this cue in place of the one behind it too, so that its places rise up to this cue and no further.
     fn with_cue_twice(&self, cue: usize) -> Vec<u8> {
-        let cues = reference::cues(&self.bytes).expect("the book keeps the limits");
-        let start = if cue == 0 { 0 } else { cues[cue - 1].title.end };
-        let [end, rest] = [cue, cue + 1].map(|cue| cues[cue].title.end);
+        let [start, end, rest] = [cue, cue + 1, cue + 2].map(|cues| self.end_of(cues));
         [&self.bytes[..end], &self.bytes[start..end], &self.bytes[rest..]].concat()
     }
 
-    /// The entries of all cues, which library, twins and reference must write alike. A side that is wrong where a cue is missing or does not run forward
-    /// could be faster, so they must agree on the text's first half too, where the later cues are not, and on the book with a cue twice.
+    /// The place after so many cues.
+    fn end_of(&self, cues: usize) -> usize {
+        (0..cues).fold(0, |place, _| reference::read_cue(&self.bytes, place).expect("the book keeps the limits").1)
+    }
+
+    /// The entries of all cues, which library, twins and reference must write alike. A side that is wrong where a cue is missing, does not run forward or
+    /// does not play could be faster, so they must agree on the text's first half too, where the later cues are not, on the book with a cue twice, and on
+    /// the next day.
     fn check_resolving(&self, text: &Libretto, lent: &mut Lent) -> Vec<u32> {
         let twice = self.with_cue_twice(CUES_MAX / 2);
         for (book, letters) in [(&self.bytes, &text.letters[..TEXT_MAX / 2]), (&twice, &text.letters), (&self.bytes, &text.letters)] {
-            self.check_side("the reference", book, letters, |memory| {
-                reference::resolve(PAGE.number(), book, letters, memory.copy, memory.scratch, memory.entries)
-            });
-            BUILDS.iter().for_each(|build| self.check_side("C", book, letters, |memory| resolve_by_twin(build, book, letters, memory)));
+            for day in [DAY, NEXT_DAY] {
+                self.check_side("the reference", day, book, letters, |memory| {
+                    reference::resolve(day, PAGE.number(), book, letters, memory.copy, memory.scratch, memory.entries)
+                });
+                BUILDS.iter().for_each(|build| self.check_side("C", day, book, letters, |memory| resolve_by_twin(build, day, book, letters, memory)));
+            }
         }
-        let raw = resolve_raw(PAGE.number(), &self.bytes, &text.letters, &mut lent.for_resolver());
+        let raw = resolve_raw(DAY, PAGE.number(), &self.bytes, &text.letters, &mut lent.for_resolver());
         let due = (0, CUES_MAX as u32, (TEXT_MAX * self.groups()) as u32);
         assert_eq!((raw.refusal, raw.number, raw.reads), due, "{}: the library resolves all cues", self.phrases);
         lent.for_resolver().entries.to_vec()
     }
 
-    /// Ends the program unless this side answers as the library does on this book, its own or one made of it, and these letters, and leaves the same
-    /// memory, which is dirty before.
-    fn check_side(&self, side: &str, book: &[u8], letters: &[u8], resolve: impl Fn(&mut ResolverMemory<'_>) -> (u32, u32, u32)) {
+    /// Ends the program unless this side answers as the library does on this day for this book, its own or one made of it, and these letters, and leaves
+    /// the same memory, which is dirty before.
+    fn check_side(&self, side: &str, day: u32, book: &[u8], letters: &[u8], resolve: impl Fn(&mut ResolverMemory<'_>) -> (u32, u32, u32)) {
         let dirt = Lent::dirty(&mut Random::new(3));
         let (mut library, mut other) = (dirt.clone(), dirt);
-        let raw = resolve_raw(PAGE.number(), book, letters, &mut library.for_resolver());
+        let raw = resolve_raw(day, PAGE.number(), book, letters, &mut library.for_resolver());
         let answer = resolve(&mut other.for_resolver());
-        let told = format!("phrases {}, {} letters", self.phrases, letters.len());
+        let told = format!("phrases {}, {} letters, day {day}", self.phrases, letters.len());
         assert_eq!((raw.refusal, raw.number, raw.reads), answer, "{told}: the library (left) and {side} answer differently");
         assert!(library == other, "{told}: the library and {side} leave different memory");
     }
 }
 
-fn resolve_by_twin(build: &Build, book: &[u8], letters: &[u8], memory: &mut ResolverMemory<'_>) -> (u32, u32, u32) {
-    let given = build.resolve(PAGE, book, letters, memory);
+fn resolve_by_twin(build: &Build, day: u32, book: &[u8], letters: &[u8], memory: &mut ResolverMemory<'_>) -> (u32, u32, u32) {
+    let given = build.resolve(day, PAGE, book, letters, memory);
     (given.refusal, given.number, given.reads)
 }
 
@@ -178,11 +196,11 @@ impl<'a> Contest<'a> {
             black_box(read_book_raw(&book.bytes));
         });
         let resolving = Side::new(|lent| {
-            black_box(resolve_raw(PAGE.number(), &book.bytes, &text.letters, &mut lent.for_resolver()));
+            black_box(resolve_raw(DAY, PAGE.number(), &book.bytes, &text.letters, &mut lent.for_resolver()));
         });
         let twins_resolving = |build: &'static Build| {
             Side::new(move |lent| {
-                black_box(build.resolve(PAGE, &book.bytes, &text.letters, &mut lent.for_resolver()));
+                black_box(build.resolve(DAY, PAGE, &book.bytes, &text.letters, &mut lent.for_resolver()));
             })
         };
         let twins_resolving = BUILDS.iter().map(twins_resolving).collect();
@@ -256,10 +274,54 @@ mod tests {
     #[test]
     fn twins_resolve_as_the_library_does() {
         let (letters, book) = front();
-        // A cue is missing; and the second cue, the last of a group and the first of the next one do not run forward.
-        for bytes in [book.bytes.clone(), book.with_cue_twice(0), book.with_cue_twice(62), book.with_cue_twice(63)] {
-            BUILDS.iter().for_each(|build| book.check_side("C", &bytes, &letters, |memory| resolve_by_twin(build, &bytes, &letters, memory)));
+        // A cue is missing; and the second cue, the last of a group and the first of the next one do not run forward; on the next day these are others.
+        let books = [0, 62, 63, 126, 127].map(|cue| book.with_cue_twice(cue)).into_iter().chain([book.bytes.clone()]);
+        let calls = books.flat_map(|bytes| [DAY, NEXT_DAY].map(|day| (bytes.clone(), day)));
+        for ((bytes, day), build) in calls.zip(BUILDS.iter().cycle()) {
+            book.check_side("C", day, &bytes, &letters, |memory| resolve_by_twin(build, day, &bytes, &letters, memory));
         }
+    }
+
+    #[test]
+    fn twins_pass_over_cues_that_do_not_play() {
+        let (letters, book) = front();
+        // The front has the cues of 80 or more, of which every second one plays on the next day, so that the first missing one is in another group.
+        let answers = [DAY, NEXT_DAY].map(|day| {
+            let mut lent = Lent::dirty(&mut Random::new(5));
+            resolve_by_twin(&BUILDS[0], day, &book.bytes, &letters, &mut lent.for_resolver())
+        });
+        assert!(answers.iter().all(|&(refusal, cue, _)| refusal == 12 && cue > 64), "{answers:?}");
+        assert_eq!(answers.map(|(_, _, reads)| reads), [2 * 3000, 3000], "a group, and half of one");
+        // A book of which no cue plays is of no group.
+        let dated = &book.bytes[book.end_of(1)..book.end_of(2)];
+        for (day, answer) in [(DAY, (0, 1, 3000)), (NEXT_DAY, (0, 0, 0)), (DAYS.first - 1, (0, 0, 0))] {
+            for build in &BUILDS {
+                book.check_side("C", day, dated, &letters, |memory| {
+                    let given = resolve_by_twin(build, day, dated, &letters, memory);
+                    assert_eq!(given, answer, "day {day}");
+                    given
+                });
+            }
+        }
+    }
+
+    #[test]
+    fn twins_read_damaged_dates_as_the_library_does() {
+        let (_, book) = front();
+        book.check_damaged();
+        // The last field of the second cue is its dates; each byte of it is any other.
+        let end = book.end_of(2);
+        let mut refusals = Vec::new();
+        for place in end - 7..end {
+            for byte in 0..=255 {
+                let mut changed = book.bytes[..book.end_of(3)].to_vec();
+                changed[place] = byte;
+                let raw = read_book_raw(&changed);
+                check_reading(&changed, (raw.refusal, raw.number));
+                refusals.push(raw.refusal);
+            }
+        }
+        assert!([0, 8, 9, 16].iter().all(|refusal| refusals.contains(refusal)), "the damages met too little");
     }
 
     #[test]
@@ -267,7 +329,7 @@ mod tests {
         let (letters, book) = front();
         for cue in [0, 1, 62, 63, 64] {
             let mut lent = Lent::dirty(&mut Random::new(4));
-            let answer = resolve_by_twin(&BUILDS[0], &book.with_cue_twice(cue), &letters, &mut lent.for_resolver());
+            let answer = resolve_by_twin(&BUILDS[0], DAY, &book.with_cue_twice(cue), &letters, &mut lent.for_resolver());
             let groups = if cue + 1 < 64 { 1 } else { 2 };
             assert_eq!(answer, (15, cue as u32 + 1, 3000 * groups), "cue {cue} twice");
         }
@@ -277,8 +339,8 @@ mod tests {
     #[should_panic(expected = "a side that counts no reads answer differently")]
     fn a_wrong_answer_is_found() {
         let (letters, book) = front();
-        book.check_side("a side that counts no reads", &book.bytes, &letters, |memory| {
-            let (refusal, number, _) = resolve_by_twin(&BUILDS[0], &book.bytes, &letters, memory);
+        book.check_side("a side that counts no reads", DAY, &book.bytes, &letters, |memory| {
+            let (refusal, number, _) = resolve_by_twin(&BUILDS[0], DAY, &book.bytes, &letters, memory);
             (refusal, number, 0)
         });
     }
@@ -287,8 +349,8 @@ mod tests {
     #[should_panic(expected = "a side that does not clear its scratch leave different memory")]
     fn wrong_memory_is_found() {
         let (letters, book) = front();
-        book.check_side("a side that does not clear its scratch", &book.bytes, &letters, |memory| {
-            let answer = resolve_by_twin(&BUILDS[0], &book.bytes, &letters, memory);
+        book.check_side("a side that does not clear its scratch", DAY, &book.bytes, &letters, |memory| {
+            let answer = resolve_by_twin(&BUILDS[0], DAY, &book.bytes, &letters, memory);
             memory.scratch[40_000] = 1;
             answer
         });

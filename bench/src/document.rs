@@ -260,11 +260,11 @@ fn books(results: &Results) -> String {
     }
     format!(
         "## Cue books\n\n\
-         Books of {CUES_MAX} cues that stand in 32,768 letters of verse, evenly spread and rising. Reading is a test of the whole book. Resolving walks \
-         over the text once for each group of cues, by an automaton of the group's phrases. It is over the same in C, with the same automaton in the \
-         same scratch of 65,535 entries; and over {CUES_MAX} full finds of the phrases by FJS in C, which are folded beforehand, in the folded text: the \
-         resolver folds them itself, and gives line and column too. A book of long phrases has many groups of a few cues; each walk reads every letter, \
-         where a find leaves most of them out, so it has no goal against finds.\n\n{}\n\
+         Books of {CUES_MAX} cues that stand in 32,768 letters of verse, evenly spread and rising, every second one with days; all of them play. Reading \
+         is a test of the whole book. Resolving walks over the text once for each group of cues, by an automaton of the group's phrases. It is over the \
+         same in C, with the same automaton in the same scratch of 65,535 entries; and over {CUES_MAX} full finds of the phrases by FJS in C, which are \
+         folded beforehand, in the folded text: the resolver folds them itself, and gives line and column too. A book of long phrases has many groups \
+         of a few cues; each walk reads every letter, where a find leaves most of them out, so it has no goal against finds.\n\n{}\n\
          The library folds the 32,768 letters by page 1 in {:.2} µs, which is {:.2} bytes a nanosecond; by page 15, which looks each letter up in a \
          table, in {:.2} µs, which is {:.2}, and {:.2} of a loop over a constant table in C. A resolve of a book without cues folds the letters by page \
          1 into the copy and clears the scratch, and takes {:.2} µs.\n",

@@ -1,6 +1,6 @@
 //! Folding a text by each page, by page 15 beside a loop over a constant table in C, and as the resolver does it.
 
-use crate::books::Libretto;
+use crate::books::{Libretto, DAY};
 use crate::clock::{rounds, Side};
 use crate::lent::Lent;
 use crate::statistics::least;
@@ -50,7 +50,7 @@ impl<'a> Contest<'a> {
     /// The library's folding of a text by both pages, the twins by page 15, and a resolve of a book without cues by page 1.
     pub fn new(text: &'a Libretto) -> Contest<'a> {
         let no_cues = Side::new(|lent: &mut Lent| {
-            black_box(resolve_raw(Page::Latin1.number(), &[], &text.letters, &mut lent.for_resolver()));
+            black_box(resolve_raw(DAY, Page::Latin1.number(), &[], &text.letters, &mut lent.for_resolver()));
         });
         let twin = |build: &'static Build| {
             Side::new(move |lent: &mut Lent| {

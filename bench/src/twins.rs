@@ -3,7 +3,7 @@
 //! A twin refuses nothing, so what the library would refuse is asserted here before the call.
 
 use crate::lent::Lent;
-use libretto::{Method, Page, RawFinding, ResolverMemory, PHRASE_MAX, RESOLVER_SCRATCH, TEXT_MAX};
+use libretto::{Method, Page, RawFinding, ResolverMemory, DAY_MAX, PHRASE_MAX, RESOLVER_SCRATCH, TEXT_MAX};
 use std::ops::Range;
 
 /// What an engine's twin gives back.
@@ -42,7 +42,7 @@ pub struct TwinAnswer {
 pub struct TwinResolving {
     /// The refusal's number, or 0.
     pub refusal: u32,
-    /// The number of cues, or the index of the refused cue.
+    /// The number of playing cues, or the index of the refused cue.
     pub number: u32,
     /// The letters of the text that were read.
     pub reads: u32,
@@ -53,7 +53,7 @@ type FindMoves = unsafe extern "C" fn(*const u8, usize, *const u8, usize, *mut u
 type Relist =
     unsafe extern "C" fn(*const u8, usize, *const u8, usize, *const u32, usize, usize, usize, *const u8, usize, *mut u32, usize) -> TwinAnswer;
 type ReadBook = unsafe extern "C" fn(*const u8, usize) -> TwinAnswer;
-type Resolve = unsafe extern "C" fn(u32, *const u8, usize, *const u8, usize, *mut u8, *mut u16, usize, *mut u32, usize) -> TwinResolving;
+type Resolve = unsafe extern "C" fn(u32, u32, *const u8, usize, *const u8, usize, *mut u8, *mut u16, usize, *mut u32, usize) -> TwinResolving;
 type Fold = unsafe extern "C" fn(*const u8, usize, *mut u8);
 
 /// The twins compiled with one placement of code.
@@ -99,6 +99,7 @@ macro_rules! builds {
                 ) -> TwinAnswer;
                 fn $read_book(book: *const u8, book_len: usize) -> TwinAnswer;
                 fn $resolve(
+                    day: u32,
                     page: u32,
                     book: *const u8,
                     book_len: usize,
@@ -255,13 +256,14 @@ impl Build {
     }
 
     /// The resolver's twin.
-    pub fn resolve(&self, page: Page, book: &[u8], text: &[u8], memory: &mut ResolverMemory<'_>) -> TwinResolving {
-        assert!(text.len() <= TEXT_MAX && memory.copy.len() >= text.len() && memory.scratch.len() >= RESOLVER_SCRATCH);
+    pub fn resolve(&self, day: u32, page: Page, book: &[u8], text: &[u8], memory: &mut ResolverMemory<'_>) -> TwinResolving {
+        assert!(day <= DAY_MAX && text.len() <= TEXT_MAX && memory.copy.len() >= text.len() && memory.scratch.len() >= RESOLVER_SCRATCH);
         // SAFETY: each pointer comes from a slice; the copy's length is not passed on, and the twin writes as many letters as the assertion found room
         // for. The exclusive borrows keep copy, scratch and entries apart from each other and from book and text, and all borrows outlive the call,
         // which keeps no pointer. The twin accepts any bytes. `TwinResolving` has the layout of the C structure.
         unsafe {
             (self.resolve)(
+                day,
                 page.number(),
                 book.as_ptr(),
                 book.len(),
