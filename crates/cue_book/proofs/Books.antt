@@ -3,7 +3,7 @@ use mathlib.Core.Path.{_≡_, refl, sym, ap, ap₂, subst, _∙_}
 use Prim.Native.Nat.{ℕ, zero, suc, _+_, _-_, _≤_, _<_}
 use native.Mathlib.Omega.{arith}
 use native.Mathlib.Numerals.{add-one}
-use mathlib.Core.Bool.{true, false, cond}
+use mathlib.Core.Bool.{true, false, cond, _&&_}
 use mathlib.Core.List.{List, [], _∷_, _++_, append-nil}
 use lib.ListN.{length, getD, take, drop, length-drop, length-append}
 use lib.Seq.{getD-append-seam}
@@ -17,13 +17,15 @@ use Rattle.cue_fields.specs.Form.{formSize, afterForm}
 use Rattle.cue_fields.proofs.Fields.{after-field}
 use Rattle.cues.specs.declared.CueAnswer.{CueAnswer}
 use Rattle.cues.specs.declared.Days.{Days}
-use Rattle.cues.specs.Cue.{Cue, headForm, daysHold, playsOn}
+use Rattle.cues.specs.declared.Mark.{Mark}
+use Rattle.cues.specs.declared.Choice.{Choice}
+use Rattle.cues.specs.Cue.{Cue, headForm, playsOn, seenBy, isChosen}
 use Rattle.cues.specs.Reading.{cueRefusal, cueSize, afterCue, cueOf}
 use Rattle.cues.specs.Places.{cueEnd, titleStart, titleLength, cueAt, CueRead}
-use Rattle.cues.proofs.Cues.{cue-gap, cue-phrase, cue-inside, title-body, title-last, CueAt, title-ends}
+use Rattle.cues.proofs.Cues.{cue-gap, cue-phrase, cue-some, cue-inside, title-body, title-last, CueAt, title-ends}
 use Rattle.cue_book.specs.declared.Part.{Part}
-use Rattle.cue_book.specs.Reading.{Reading, refused, cues, followed, readUpTo, readBook, refusalOf, numberOf, playing, playingOf, cuesIn, titleAt}
-use Rattle.cue_book.specs.Places.{playingAnswer, cuePlace, CueBack, titleIn, front, titlePart, Shows, TitlePlaced}
+use Rattle.cue_book.specs.Reading.{Reading, refused, cues, followed, readUpTo, readBook, refusalOf, numberOf, playing, seen, playingFor, chosenOf, cuesIn, titleAt}
+use Rattle.cue_book.specs.Places.{chosenAnswer, cuePlace, CueBack, titleIn, front, titlePart, Shows, TitlePlaced}
 
 -- ---- reading on from here, by its cases
 
@@ -114,6 +116,16 @@ ends (suc more) index rest e =
     not-followed : {A : Type 0} (r : Reading) → followed (cueOf rest) r ≡ cues [] → A
     not-followed (refused number index) e = not-both e
     not-followed (cues cs) e = not-empty (sym e)
+
+-- where one cue more might be read, the same cues are read, by whatever index
+pub read-slack : (cs : List Cue) (more index index′ : ℕ) (rest : List ℕ) → readUpTo more index rest ≡ cues cs → readUpTo (suc more) index′ rest ≡ cues cs
+read-slack [] more index index′ rest e = read-end (suc more) index′ rest (ends more index rest e)
+read-slack (c ∷ cs) more index index′ rest e =
+    let b = begins more index rest c cs e in
+    let on = read-slack cs (b .fewer) (suc index) (suc index′) (afterCue rest) (b .then) in
+    read-next more index′ rest (cue-some rest (b .none)) (b .none)
+    ∙ ap₂ (λ (d : Cue) (m : ℕ). followed d (readUpTo m (suc index′) (afterCue rest))) (b .cue) (b .fewer-is)
+    ∙ ap (followed c) on
 
 -- a refused book's number is not 0, and one from 11 on is 16
 pub refused-number : (more index : ℕ) (rest : List ℕ) {number at : ℕ} → readUpTo more index rest ≡ refused number at → (1 ≤ number) × (11 ≤ number → number ≡ 16)
@@ -271,6 +283,31 @@ left-first {book} {index} {place} {c} {later} l =
           };
     }
 
+-- the cues left after one that is passed over without a number are left with the index of that one
+pub left-same : {book : List ℕ} {index place : ℕ} {rest : List Cue} → Left book (index + 1) place rest → Left book index place rest
+left-same {book} {index} {place} {rest} l = record { more = suc (l .more); count = omega (arith, l .count); reads = read-slack rest (l .more) (index + 1) index (drop place book) (l .reads) }
+
+-- ---- the cues that are chosen for a role and a day
+
+-- of no cue there are none
+pub for-nothing : (who : Choice) → playingFor who [] ≡ []
+for-nothing who = ap (playing (who .day)) (those-nothing (seenBy (who .role))) ∙ those-nothing (playsOn (who .day))
+
+-- of some cues and one more
+for-more : (who : Choice) (done : List Cue) (c : Cue) → length (playingFor who (done ++ c ∷ [])) ≡ length (playingFor who done) + length (playingFor who (c ∷ []))
+for-more who done c =
+    ap (λ (l : List Cue). length (playing (who .day) l)) (those-append (seenBy (who .role)) done (c ∷ []))
+    ∙ ap length (those-append (playsOn (who .day)) (seen (who .role) done) (seen (who .role) (c ∷ [])))
+    ∙ length-append (playingFor who done) (playingFor who (c ∷ []))
+
+-- of one: it is chosen, or it is not
+for-one : (who : Choice) (c : Cue) → length (playingFor who (c ∷ [])) ≡ cond (isChosen who (c .mark) (c .days)) 1 0
+unfolding those
+for-one who c =
+    by-test (λ t. length (playing (who .day) (cond t (c ∷ []) [])) ≡ cond (t && playsOn (who .day) c) 1 0) (seenBy (who .role) c)
+    (λ _. by-test (λ t. length (cond t (c ∷ []) []) ≡ cond t 1 0) (playsOn (who .day) c) (λ _. refl) (λ _. refl))
+    (λ _. refl)
+
 -- ---- at a cue of a walk: the cues read so far, and the rest, are the whole book
 
 -- cues before what the rest reads as
@@ -347,66 +384,59 @@ module _ {book : List ℕ} {index place : ℕ} (a : ReadSoFar book index place) 
   so-far-end h =
       a .whole ∙ ap (followedAll (a .done)) (read-end (a .more) index (drop place book) (omega (arith, length-drop place book))) ∙ all-cues (a .done) [] ∙ ap cues (append-nil (a .done))
 
--- ---- the cues that play on a day, counted by the walk
+-- ---- the cues that are chosen, counted by the walk
 
-pub record Counted (book : List ℕ) (day index place count : ℕ) : Type 0 where
+pub record Counted (book : List ℕ) (who : Choice) (index place count : ℕ) : Type 0 where
   pub so-far : ReadSoFar book index place
-  pub plays : count ≡ length (playing day (so-far .done))
+  pub are : count ≡ length (playingFor who (so-far .done))
 
-pub counted-first : (book : List ℕ) (day : ℕ) → Counted book day 0 0 0
+pub counted-first : (book : List ℕ) (who : Choice) → Counted book who 0 0 0
 unfolding so-far-first
-counted-first book day = record { so-far = so-far-first book; plays = ap length (sym (those-nothing (playsOn day))) }
+counted-first book who = record { so-far = so-far-first book; are = ap length (sym (for-nothing who)) }
 
 -- there are no more of them than cues
-pub counted-few : {book : List ℕ} {day index place count : ℕ} → Counted book day index place count → count ≤ index
-counted-few {book} {day} a = omega (arith, a .plays, those-few (playsOn day) (a .so-far .done), a .so-far .counted)
-
--- one cue more
-plays-more : (day : ℕ) (done : List Cue) (c : Cue) → length (playing day (done ++ c ∷ [])) ≡ length (playing day done) + length (playing day (c ∷ []))
-plays-more day done c = ap length (those-append (playsOn day) done (c ∷ [])) ∙ length-append (playing day done) (playing day (c ∷ []))
-
-plays-one : (day : ℕ) (c : Cue) → playsOn day c ≡ true → length (playing day (c ∷ [])) ≡ 1
-unfolding those
-plays-one day c e = rw e
-
-plays-not : (day : ℕ) (c : Cue) → playsOn day c ≡ false → length (playing day (c ∷ [])) ≡ 0
-unfolding those
-plays-not day c e = rw e
+pub counted-few : {book : List ℕ} {who : Choice} {index place count : ℕ} → Counted book who index place count → count ≤ index
+counted-few {book} {who} a =
+    let done : List Cue = a .so-far .done in
+    omega (arith, a .are, those-few (playsOn (who .day)) (seen (who .role) done), those-few (seenBy (who .role)) done, a .so-far .counted)
 
 module _
     {book : List ℕ}
-    {day index place count phrase phrase-end ordinal title title-end end : ℕ}
+    {who : Choice}
+    {index place count phrase phrase-end ordinal title title-end end : ℕ}
     {days : Days}
-    (a : Counted book day index place count)
+    {mark : Mark}
+    (a : Counted book who index place count)
     (inside : place < length book)
     (few : index < 999)
-    (c : CueAt book place phrase phrase-end ordinal title title-end days end)
+    (c : CueAt book place phrase phrase-end ordinal title title-end days mark end)
   where
-    -- it plays, or it does not
-    pub counted-plays : daysHold day days ≡ true → Counted book day (index + 1) end (count + 1)
+    -- one cue more, which counts for 1 or for 0
+    counted-on : {more : ℕ} → more ≡ cond (isChosen who mark days) 1 0 → Counted book who (index + 1) end (count + more)
     unfolding so-far-next
-    counted-plays e =
+    counted-on e =
         let d = cueOf (drop place book) in
-        let on : playsOn day d ≡ true = ap (λ (x : Cue). daysHold day (x .days)) (sym (c .meant)) ∙ e in
-        record { so-far = so-far-next (a .so-far) inside few (c .none) (c .end-is); plays = omega (arith, a .plays, plays-more day (a .so-far .done) d, plays-one day d on) }
+        let one = for-one who d in
+        let told : length (playingFor who (d ∷ [])) ≡ cond (isChosen who mark days) 1 0 = one ∙ ap (λ (x : Cue). cond (isChosen who (x .mark) (x .days)) 1 0) (sym (c .meant)) in
+        record { so-far = so-far-next (a .so-far) inside few (c .none) (c .end-is); are = omega (arith, a .are, for-more who (a .so-far .done) d, told, e) }
 
-    pub counted-not : daysHold day days ≡ false → Counted book day (index + 1) end count
-    unfolding so-far-next
-    counted-not e =
-        let d = cueOf (drop place book) in
-        let off : playsOn day d ≡ false = ap (λ (x : Cue). daysHold day (x .days)) (sym (c .meant)) ∙ e in
-        record { so-far = so-far-next (a .so-far) inside few (c .none) (c .end-is); plays = omega (arith, a .plays, plays-more day (a .so-far .done) d, plays-not day d off) }
+    -- it is chosen, or it is not
+    pub counted-chosen : isChosen who mark days ≡ true → Counted book who (index + 1) end (count + 1)
+    counted-chosen e = counted-on (rw e)
 
--- what a book read for a day gives back: by the definition, of a refused book, and of one that is accepted
-pub playing-is : (day : ℕ) (book : List ℕ) → playingAnswer day book ≡ record { refusal = refusalOf (readBook book); number = playingOf day (readBook book) }
-unfolding playingAnswer
-playing-is day book = refl
+    pub counted-not : isChosen who mark days ≡ false → Counted book who (index + 1) end count
+    counted-not e = let none : count + 0 ≡ count = omega arith in subst (Counted book who (index + 1) end) none (counted-on (rw e))
 
-pub playing-refused : (day : ℕ) (book : List ℕ) {number index : ℕ} → readBook book ≡ refused number index → playingAnswer day book ≡ record { refusal = number; number = index }
-playing-refused day book e = playing-is day book ∙ rw e
+-- what a book read for a role and a day gives back: by the definition, of a refused book, and of one that is accepted
+pub chosen-is : (who : Choice) (book : List ℕ) → chosenAnswer who book ≡ record { refusal = refusalOf (readBook book); number = chosenOf who (readBook book) }
+unfolding chosenAnswer
+chosen-is who book = refl
 
-pub playing-cues : (day : ℕ) (book : List ℕ) {cs : List Cue} → readBook book ≡ cues cs → playingAnswer day book ≡ record { refusal = 0; number = length (playing day cs) }
-playing-cues day book e = playing-is day book ∙ rw e
+pub chosen-refused : (who : Choice) (book : List ℕ) {number index : ℕ} → readBook book ≡ refused number index → chosenAnswer who book ≡ record { refusal = number; number = index }
+chosen-refused who book e = chosen-is who book ∙ rw e
+
+pub chosen-cues : (who : Choice) (book : List ℕ) {cs : List Cue} → readBook book ≡ cues cs → chosenAnswer who book ≡ record { refusal = 0; number = length (playingFor who cs) }
+chosen-cues who book e = chosen-is who book ∙ rw e
 
 -- ---- the wanted cue's title, noted by the walk
 
@@ -431,8 +461,9 @@ module _
     {book : List ℕ}
     {index place phrase phrase-end ordinal title title-end end : ℕ}
     {days : Days}
+    {mark : Mark}
     (a : ReadSoFar book index place)
-    (c : CueAt book place phrase phrase-end ordinal title title-end days end)
+    (c : CueAt book place phrase phrase-end ordinal title title-end days mark end)
   where
     pub noted-this : {wanted : ℕ} → index ≡ wanted → Noted book wanted (index + 1) (record { start = title; len = title-end - title })
     noted-this {wanted} e =

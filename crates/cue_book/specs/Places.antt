@@ -9,13 +9,14 @@ use denote.Ref.{RefT}
 use Rattle.cue_fields.specs.Field.{numberIn}
 use Rattle.cue_fields.specs.Form.{formSize}
 use Rattle.cues.specs.declared.CueAnswer.{CueAnswer}
+use Rattle.cues.specs.declared.Choice.{Choice}
 use Rattle.cues.specs.Cue.{Cue}
 use Rattle.cues.specs.Reading.{cueSize}
 use Rattle.cues.specs.Places.{cueNumber, cueEnd, cuesMeant, titleStart, titleLength}
 use Rattle.matching.specs.declared.Answer.{Answer}
 use Rattle.matching.specs.Joined.{those}
 use Rattle.cue_book.specs.declared.Part.{Part}
-use Rattle.cue_book.specs.Reading.{readBook, refusalOf, numberOf, playingOf, cuesIn, titleAt}
+use Rattle.cue_book.specs.Reading.{readBook, refusalOf, numberOf, chosenOf, cuesIn, titleAt}
 
 -- ---- a book
 
@@ -23,10 +24,10 @@ use Rattle.cue_book.specs.Reading.{readBook, refusalOf, numberOf, playin
 abbrev pub bookAnswer : List ℕ → Answer
 bookAnswer book = record { refusal = refusalOf (readBook book); number = numberOf (readBook book) }
 
--- what a book read for a day gives back
-unfoldable pub playingAnswer : ℕ → List ℕ → Answer
+-- what a book read for a role and a day gives back
+unfoldable pub chosenAnswer : Choice → List ℕ → Answer
 unfolding readBook those
-playingAnswer day book = record { refusal = refusalOf (readBook book); number = playingOf day (readBook book) }
+chosenAnswer who book = record { refusal = refusalOf (readBook book); number = chosenOf who (readBook book) }
 
 -- where the cue of that index begins: after the one before it
 unfoldable pub cuePlace : List ℕ → ℕ → ℕ

@@ -1,4 +1,4 @@
--- What reading a book gives on every byte string (document 01, "Cue book, folding, lines"; document 02, (viii)), with the tests in the document's order. `rest` is what is left of the book at a cue.
+-- What reading a book gives on every byte string (document 01, "Cue book, folding, lines"; document 02, (viii) and (xiv)), with the tests in the document's order. `rest` is what is left of the book at a cue.
 use Prim.Native.Nat.{ℕ, zero, suc}
 use mathlib.Core.Bool.{cond}
 use mathlib.Core.List.{List, [], _∷_}
@@ -6,7 +6,8 @@ use lib.ListN.{length}
 use lib.Dec.{eqb}
 use Rattle.cue_fields.specs.Form.{formSize}
 use Rattle.matching.specs.Joined.{those}
-use Rattle.cues.specs.Cue.{Cue, playsOn}
+use Rattle.cues.specs.declared.Choice.{Choice}
+use Rattle.cues.specs.Cue.{Cue, playsOn, seenBy}
 use Rattle.cues.specs.Reading.{cueRefusal, cueOf, afterCue}
 
 -- what reading a book gives: a refusal with the index of its cue, or the cues
@@ -45,10 +46,17 @@ numberOf (cues cs) = length cs
 abbrev pub playing : ℕ → List Cue → List Cue
 playing day cs = those (playsOn day) cs
 
--- the second number that reading a book for a day gives back: the refused cue's index, or the number of cues that play
-abbrev pub playingOf : ℕ → Reading → ℕ
-playingOf day (refused number index) = index
-playingOf day (cues cs) = length (playing day cs)
+-- the cues that a role sees, and those of them that play on a day, in the book's order
+abbrev pub seen : ℕ → List Cue → List Cue
+seen role cs = those (seenBy role) cs
+
+abbrev pub playingFor : Choice → List Cue → List Cue
+playingFor who cs = playing (who .day) (seen (who .role) cs)
+
+-- the second number that reading a book for a role and a day gives back: the refused cue's index, or the number of cues that are chosen
+abbrev pub chosenOf : Choice → Reading → ℕ
+chosenOf who (refused number index) = index
+chosenOf who (cues cs) = length (playingFor who cs)
 
 -- the cues that were read; none where the book is refused
 abbrev pub cuesIn : Reading → List Cue

@@ -1,12 +1,13 @@
-// This crate reads whole cue books, and shows a title (document 01, "Cue book, folding, lines"; document 02, (viii)).
+// This crate reads whole cue books, and shows a title (document 01, "Cue book, folding, lines"; document 02, (viii) and (xiv)).
 // It depends on `cues` for one cue, on `cue_fields` for the size of a cue's fields, and on `matching` for the answer that a call gives, what of a list passes a test, case analysis and parts of a slice.
 // proofs/Books.antt has the laws of a book read cue by cue; `cue_writer` has those that a book written reads back.
+use cues::Choice;
 use cues::CueAnswer;
 use matching::Answer;
 ghost use mathlib.Core.Path.{_≡_};
 ghost use Prim.Native.Nat.{_≤_};
 ghost use lib.ListN.{length, take};
-ghost use Rattle.cue_book.specs.Places.{bookAnswer, playingAnswer, TitlePlaced, TitleShown};
+ghost use Rattle.cue_book.specs.Places.{bookAnswer, chosenAnswer, TitlePlaced, TitleShown};
 ghost use Rattle.cue_book.specs.Walking.{Walked};
 
 // A part of a book: where it starts, and how many bytes it has.
@@ -16,35 +17,35 @@ pub struct Part {
     pub len: usize,
 }
 
-// What a walk over a whole book gives: the answer, how many cues play on the day, and the part where the wanted cue's title stands.
+// What a walk over a whole book gives: the answer, how many cues are chosen, and the part where the wanted cue's title stands.
 struct WalkAnswer {
     refusal: u32,
     number: u32,
-    playing: u32,
+    chosen: u32,
     start: usize,
     len: usize,
 }
 
-// What a walk over a refused book gives: no cue plays, and no title stands in it.
+// What a walk over a refused book gives: no cue is chosen, and no title stands in it.
 fn refused_at(refusal: u32, index: u32) -> WalkAnswer
-    ensures { λ r. ⌜ r ≡ record { refusal = refusal; number = index; playing = 0; start = 0; len = 0 } ⌝ }
+    ensures { λ r. ⌜ r ≡ record { refusal = refusal; number = index; chosen = 0; start = 0; len = 0 } ⌝ }
 {
     WalkAnswer {
         refusal,
         number: index,
-        playing: 0,
+        chosen: 0,
         start: 0,
         len: 0,
     }
 }
 
-// Reads a whole book in one pass, counts the cues that play on a day, and notes where the title of the wanted cue stands.
-fn walk(book: &[u8], day: u32, wanted: u32) -> WalkAnswer
-    ensures { λ r. ⌜ Walked (now (book .entry)) day wanted r ⌝ }
+// Reads a whole book in one pass, counts the cues that are chosen for a role and a day, and notes where the title of the wanted cue stands.
+fn walk(book: &[u8], choice: Choice, wanted: u32) -> WalkAnswer
+    ensures { λ r. ⌜ Walked (now (book .entry)) choice wanted r ⌝ }
 {
     let mut start = 0;
     let mut len = 0;
-    let mut playing = 0;
+    let mut chosen = 0;
     let mut index = 0;
     let mut place = 0;
     while place < book.len() {
@@ -59,13 +60,14 @@ fn walk(book: &[u8], day: u32, wanted: u32) -> WalkAnswer
             title,
             title_end,
             days,
+            mark,
             end,
         } = cue
         else {
             return refused_at(cues::cue_number(cue), index);
         };
-        if cues::plays(days, day) {
-            playing += 1;
+        if cues::chosen(choice, mark, days) {
+            chosen += 1;
         }
         if index == wanted {
             start = title;
@@ -77,7 +79,7 @@ fn walk(book: &[u8], day: u32, wanted: u32) -> WalkAnswer
     WalkAnswer {
         refusal: 0,
         number: index,
-        playing,
+        chosen,
         start,
         len,
     }
@@ -87,18 +89,18 @@ fn walk(book: &[u8], day: u32, wanted: u32) -> WalkAnswer
 pub fn read_book(book: &[u8]) -> Answer
     ensures { λ r. ⌜ r ≡ bookAnswer (now (book .entry)) ⌝ }
 {
-    let w = walk(book, 0, 999);
+    let w = walk(book, Choice { role: 0, day: 0 }, 999);
     Answer {
         refusal: w.refusal,
         number: w.number,
     }
 }
 
-// Reads a book for a day: 0 and the number of cues that play, or the refusal and the index of its cue.
-pub fn read_playing(book: &[u8], day: u32) -> Answer
-    ensures { λ r. ⌜ r ≡ playingAnswer day (now (book .entry)) ⌝ }
+// Reads a book for a role and a day: 0 and the number of cues that are chosen, or the refusal and the index of its cue.
+pub fn read_chosen(book: &[u8], choice: Choice) -> Answer
+    ensures { λ r. ⌜ r ≡ chosenAnswer choice (now (book .entry)) ⌝ }
 {
-    let read = walk(book, day, 999);
+    let read = walk(book, choice, 999);
     if read.refusal != 0 {
         return Answer {
             refusal: read.refusal,
@@ -107,7 +109,7 @@ pub fn read_playing(book: &[u8], day: u32) -> Answer
     }
     Answer {
         refusal: 0,
-        number: read.playing,
+        number: read.chosen,
     }
 }
 
@@ -115,7 +117,7 @@ pub fn read_playing(book: &[u8], day: u32) -> Answer
 pub fn title_part(book: &[u8], cue: u32) -> Part
     ensures { λ r. ⌜ TitlePlaced (now (book .entry)) cue r ⌝ }
 {
-    let w = walk(book, 0, cue);
+    let w = walk(book, Choice { role: 0, day: 0 }, cue);
     Part {
         start: w.start,
         len: w.len,

@@ -12,7 +12,7 @@ use borrow.Author.Tests.{eq-eqb, ne-eqb, eqb-true, ltb-false, lt-ltb, le-ltb}
 use Rattle.matching.specs.Refusals.{firstMet}
 use Rattle.matching.proofs.Refusals.{Passed, none-met, numbersTo, all-passed, gapped, met-gap}
 use Rattle.cue_fields.specs.declared.Due.{Due}
-use Rattle.cue_fields.specs.declared.Due.the-variants.{Phrase, Ordinal, Title, Dates}
+use Rattle.cue_fields.specs.declared.Due.the-variants.{Phrase, Ordinal, Title, Dates, House}
 use Rattle.cue_fields.specs.declared.FieldAnswer.{FieldAnswer}
 use Rattle.cue_fields.specs.declared.FieldAnswer.the-variants.{Body, Refused}
 use Rattle.cue_fields.proofs.FieldAnswer as answers
@@ -27,6 +27,7 @@ field-numbers Phrase rest = (refl, refl)
 field-numbers Ordinal rest = (refl, refl)
 field-numbers Title rest = (refl, refl)
 field-numbers Dates rest = (refl, refl)
+field-numbers House rest = (refl, refl)
 
 -- so one from 10 on is 16
 pub field-gap : (due : Due) (rest : List ℕ) → 10 ≤ fieldRefusal due rest → fieldRefusal due rest ≡ 16

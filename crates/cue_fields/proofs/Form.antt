@@ -12,7 +12,7 @@ use borrow.Author.Tests.{eq-eqb, ne-eqb, eqb-true, eqb-false}
 use Rattle.matching.specs.Refusals.{firstMet}
 use Rattle.matching.proofs.CaseAnalysis.{by-test, both}
 use Rattle.cue_fields.specs.declared.Due.{Due}
-use Rattle.cue_fields.specs.declared.Due.the-variants.{Phrase, Ordinal, Title, Dates}
+use Rattle.cue_fields.specs.declared.Due.the-variants.{Phrase, Ordinal, Title, Dates, House}
 use Rattle.cue_fields.specs.Field.{twoBytes, fieldBytes, tagOf, allowed, numberIn, valueTests, fieldLength, fieldSize, fieldBody, afterField, fieldRefusal}
 use Rattle.cue_fields.specs.Form.{optional, stands, dueRefusal, dueSize, dueBody, afterDue, formRefusal, formSize, afterForm, formBodies, leftOut, dueBytes, formBytes, Sound, AllSound, Other, Told, Bytes, FormReadsBack, FormWasWritten}
 use Rattle.cue_fields.proofs.Fields.{field-gap, Fielded, fielded, field-fine}
@@ -237,6 +237,7 @@ never-empty Phrase o a = false≢true o
 never-empty Ordinal o a = false≢true o
 never-empty Title o a = false≢true o
 never-empty Dates o a = false≢true a
+never-empty House o a = false≢true a
 
 -- one that does not stand there may be left out
 not-stands : (due : Due) (rest : List ℕ) → stands due rest ≡ false → optional due ≡ true

@@ -1,4 +1,4 @@
--- A field of a cue book (document 01, "Cue book, folding, lines"; document 02, (viii)): its bytes, and what reading it gives on every byte string, with the tests in the document's order. `rest` is what is
+-- A field of a cue book (document 01, "Cue book, folding, lines"; document 02, (viii) and (xiv)): its bytes, and what reading it gives on every byte string, with the tests in the document's order. `rest` is what is
 -- left of the book at the field.
 use mathlib.Core.Path.{_≡_}
 use Prim.Native.Nat.{ℕ, _+_, _-_, _*_, _/_, _%_}
@@ -9,7 +9,7 @@ use lib.Dec.{eqb, ltb, leb}
 use Rattle.matching.specs.Refusals.{Test, firstMet}
 use Rattle.calendar.specs.Calendar.{daysTests}
 use Rattle.cue_fields.specs.declared.Due.{Due}
-use Rattle.cue_fields.specs.declared.Due.the-variants.{Phrase, Ordinal, Title, Dates}
+use Rattle.cue_fields.specs.declared.Due.the-variants.{Phrase, Ordinal, Title, Dates, House}
 use Rattle.cue_fields.specs.declared.FieldAnswer.{FieldAnswer}
 use Rattle.cue_fields.specs.declared.FieldAnswer.the-variants.{Body, Refused}
 
@@ -31,6 +31,7 @@ tagOf Phrase = 1
 tagOf Ordinal = 2
 tagOf Title = 3
 tagOf Dates = 4
+tagOf House = 5
 
 -- the lengths that its body may have
 abbrev pub allowed : Due → ℕ → Bool
@@ -38,6 +39,7 @@ allowed Phrase n = leb 1 n && leb n 1024
 allowed Ordinal n = eqb n 2
 allowed Title n = leb n 200
 allowed Dates n = eqb n 4
+allowed House n = eqb n 1
 
 -- the number whose two bytes stand at the front, high byte first; a byte that is missing counts as 0
 unfoldable pub numberIn : List ℕ → ℕ
@@ -63,12 +65,17 @@ firstIn body = numberIn body
 abbrev pub lastIn : List ℕ → ℕ
 lastIn body = numberIn (drop 2 body)
 
--- the tests of its body's value: an ordinal is not 0 (9), and dates are days of the calendar, the first not after the last (16)
+-- the mark of a house field, its one byte: 0 open, 1 house only
+abbrev pub markIn : List ℕ → ℕ
+markIn body = getD body 0 0
+
+-- the tests of its body's value: an ordinal is not 0 (9), dates are days of the calendar, the first not after the last (16), and a house mark is 0 or 1 (9)
 abbrev pub valueTests : Due → List ℕ → List Test
 valueTests Phrase body = []
 valueTests Ordinal body = (eqb (numberIn body) 0, 9) ∷ []
 valueTests Title body = []
 valueTests Dates body = daysTests (firstIn body) (lastIn body)
+valueTests House body = (ltb 1 (markIn body), 9) ∷ []
 
 -- the tests of the bytes from the body onward, for a body of n bytes: body present (7), and its value
 abbrev pub bodyTests : Due → ℕ → List ℕ → List Test

@@ -8,19 +8,20 @@ use lib.ListN.{length, getD, drop}
 use lib.Dec.{eqb}
 use Rattle.matching.specs.Refusals.{firstMet}
 use Rattle.cue_fields.specs.declared.Due.{Due}
-use Rattle.cue_fields.specs.declared.Due.the-variants.{Phrase, Ordinal, Title, Dates}
+use Rattle.cue_fields.specs.declared.Due.the-variants.{Phrase, Ordinal, Title, Dates, House}
 use Rattle.cue_fields.specs.declared.FieldAnswer.{FieldAnswer}
 use Rattle.cue_fields.specs.declared.FieldAnswer.the-variants.{Body}
 use Rattle.cue_fields.specs.Field.{tagOf, allowed, numberIn, valueTests, fieldBytes, fieldBody, fieldSize, fieldRefusal, fieldNumber, bodiesMeant, fieldAt}
 
 -- ---- a field that is due
 
--- whether it may be left out (document 02, (viii)): dates may
+-- whether it may be left out (document 02, (viii) and (xiv)): dates and the house mark may
 abbrev pub optional : Due → Bool
 optional Phrase = false
 optional Ordinal = false
 optional Title = false
 optional Dates = true
+optional House = true
 
 -- whether it stands there: one that may be left out does where the next byte is its tag; where no byte is left, that is 0 here, which is no tag
 abbrev pub stands : Due → List ℕ → Bool

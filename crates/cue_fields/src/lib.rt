@@ -1,4 +1,4 @@
-// This crate reads a field of a cue book (document 01, "Cue book, folding, lines"; document 02, (viii)): a tag, a length and a body, tested in the document's order.
+// This crate reads a field of a cue book (document 01, "Cue book, folding, lines"; document 02, (viii) and (xiv)): a tag, a length and a body, tested in the document's order.
 // Its definitions also say what fields in the order of a list are (specs/Form.antt), and its laws that reading and writing such fields are inverse (proofs/Form.antt).
 // It depends on `matching` for its tables of refusals, its parts of a slice and its case analysis, and on `calendar` for the days that there are.
 ghost use mathlib.Core.Path.{_≡_};
@@ -6,8 +6,8 @@ ghost use Prim.Native.Nat.{_≤_};
 ghost use lib.ListN.{drop};
 ghost use lib.Dec.{eqb};
 ghost use Rattle.matching.specs.Refusals.{firstMet};
-ghost use Rattle.cue_fields.specs.declared.Due.the-variants.{Phrase, Ordinal, Title, Dates};
-ghost use Rattle.cue_fields.specs.Field.{tagOf, allowed, numberIn, valueTests, bodyTests, fieldNumber, FieldRead};
+ghost use Rattle.cue_fields.specs.declared.Due.the-variants.{Phrase, Ordinal, Title, Dates, House};
+ghost use Rattle.cue_fields.specs.Field.{tagOf, allowed, numberIn, markIn, valueTests, bodyTests, fieldNumber, FieldRead};
 ghost use Rattle.cue_fields.specs.Form.{optional, stands, DueRead};
 
 // Which field of a cue is due.
@@ -16,6 +16,7 @@ pub enum Due {
     Ordinal,
     Title,
     Dates,
+    House,
 }
 
 // What reading a field gives: its body stands from `start` up to `end`, which is the place after the field; or the refusal's number.
@@ -33,6 +34,7 @@ fn is_tag(due: Due, byte: u8) -> bool
         Due::Ordinal => byte == 2,
         Due::Title => byte == 3,
         Due::Dates => byte == 4,
+        Due::House => byte == 5,
     }
 }
 
@@ -45,6 +47,7 @@ fn is_allowed(due: Due, length: usize) -> bool
         Due::Ordinal => length == 2,
         Due::Title => length <= 200,
         Due::Dates => length == 4,
+        Due::House => length == 1,
     }
 }
 
@@ -73,6 +76,16 @@ pub fn number_from(bytes: &[u8], from: usize) -> usize
     number_at(&bytes[from..])
 }
 
+// The house mark whose byte stands at the front; a byte that is missing counts as 0.
+pub fn mark_at(bytes: &[u8]) -> u8
+    ensures { λ r. ⌜ r ≡ markIn (now (bytes .entry)) ⌝ }
+{
+    if bytes.len() == 0 {
+        return 0;
+    }
+    bytes[0]
+}
+
 // The refusal of an ordinal by its body: it is not 0.
 fn ordinal_refusal(body: &[u8]) -> u32
     ensures { λ r. ⌜ r ≡ firstMet (valueTests Ordinal (now (body .entry))) ⌝ }
@@ -92,6 +105,16 @@ fn dates_refusal(body: &[u8]) -> u32
     calendar::days_refused(first, last)
 }
 
+// The refusal of a house mark by its body: it is 0 or 1.
+fn house_refusal(body: &[u8]) -> u32
+    ensures { λ r. ⌜ r ≡ firstMet (valueTests House (now (body .entry))) ⌝ }
+{
+    if 1 < mark_at(body) {
+        return 9;
+    }
+    0
+}
+
 // The refusal of a body by its value, 0 for none.
 fn value_refusal(body: &[u8], due: Due) -> u32
     ensures { λ r. ⌜ r ≡ firstMet (valueTests due (now (body .entry))) ⌝ }
@@ -101,6 +124,7 @@ fn value_refusal(body: &[u8], due: Due) -> u32
         Due::Ordinal => ordinal_refusal(body),
         Due::Title => 0,
         Due::Dates => dates_refusal(body),
+        Due::House => house_refusal(body),
     }
 }
 
@@ -169,6 +193,7 @@ fn is_optional(due: Due) -> bool
         Due::Ordinal => false,
         Due::Title => false,
         Due::Dates => true,
+        Due::House => true,
     }
 }
 

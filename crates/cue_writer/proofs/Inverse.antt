@@ -31,8 +31,8 @@ use Rattle.cue_writer.proofs.Writing.{fitting}
 -- the bytes of cues stand apart from a cue before them: each begins with the tag of its phrase, and of no cue there is no byte
 book-apart : (cs : List Cue) → Apart (bookBytes cs)
 unfolding bookBytes
-book-apart [] z = omega (arith, z)
-book-apart (c ∷ cs) z = cue-apart c (bookBytes cs) z
+book-apart [] = (λ z. omega (arith, z), λ z. omega (arith, z))
+book-apart (c ∷ cs) = cue-apart c (bookBytes cs)
 
 -- the bytes of valid cues, of which there are no more than may be read
 reads : (cs : List Cue) (more index : ℕ) → AllValid cs → length cs ≤ more → readUpTo more index (bookBytes cs) ≡ cues cs
@@ -117,11 +117,11 @@ others-refused book b other z = other (cuesIn (readBook book)) (accepted-written
 -- what writing a cue put at its buffer's start is the cue's bytes, and the cue is valid
 pub wrote-bytes : {c : Cue} {bytes : List ℕ} → WroteCue c bytes → (bytes ≡ cueBytes c) × Valid c
 wrote-bytes {c} {bytes} w =
-    let none : writeRefusal c (length (w .buffer)) ≡ 0 = sym (ap (λ (a : Answer). a .refusal) (w .wrote .answer)) ∙ w .accepted in
-    let on = eq-eqb (writeRefusal c (length (w .buffer))) 0 none in
+    let none : writeRefusal c (w .house) (length (w .buffer)) ≡ 0 = sym (ap (λ (a : Answer). a .refusal) (w .wrote .answer)) ∙ w .accepted in
+    let on = eq-eqb (writeRefusal c (w .house) (length (w .buffer))) 0 none in
     let number : w .answer .number ≡ length (cueBytes c) = ap (λ (a : Answer). a .number) (w .wrote .answer) ∙ rw on in
     let left : w .buffer′ ≡ cueBytes c ++ drop (length (cueBytes c)) (w .buffer) = w .wrote .left ∙ rw on in
-    (w .is ∙ ap₂ (λ (n : ℕ) (l : List ℕ). take n l) number left ∙ take-append-seam (cueBytes c) (drop (length (cueBytes c)) (w .buffer)), fitting c (length (w .buffer)) none .valid)
+    (w .is ∙ ap₂ (λ (n : ℕ) (l : List ℕ). take n l) number left ∙ take-append-seam (cueBytes c) (drop (length (cueBytes c)) (w .buffer)), fitting c (w .house) (length (w .buffer)) none .valid)
 
 -- so a book put together from written cues is their bytes
 pub assembled-bytes : (cs : List Cue) (pieces : List (List ℕ)) → Assembled cs pieces → (joined pieces ≡ bookBytes cs) × AllValid cs

@@ -13,34 +13,48 @@ use Rattle.matching.proofs.CaseAnalysis.{by-test}
 use Rattle.pieces.specs.Pieces.{joined, putAll, Laid}
 use Rattle.pieces.proofs.Laid.{laid-front, joined-append}
 use Rattle.cue_fields.specs.declared.Due.{Due}
-use Rattle.cue_fields.specs.declared.Due.the-variants.{Dates}
+use Rattle.cue_fields.specs.declared.Due.the-variants.{Dates, House}
 use Rattle.cue_fields.specs.Field.{tagOf, twoBytes, fieldBytes}
 use Rattle.cue_fields.specs.Form.{leftOut, dueBytes, formBytes}
 use Rattle.cues.specs.declared.Days.{Days}
 use Rattle.cues.specs.declared.Days.the-variants.{Always, Within}
-use Rattle.cues.specs.Cue.{Cue, cueForm, daysBody, cueBodies, cueBytes, datesRefusal, Valid}
+use Rattle.cues.specs.declared.Mark.{Mark}
+use Rattle.cues.specs.declared.Mark.the-variants.{Unmarked, Open, HouseOnly}
+use Rattle.cues.specs.Cue.{Cue, cueForm, daysBody, markBody, cueBodies, cueBytes, datesRefusal, Valid}
 use Rattle.cue_writer.specs.Writing.{writeTests, writeRefusal, Written, fieldPieces, duePieces}
 
 -- a cue's length
-pub cue-length : (c : Cue) → length (cueBytes c) ≡ 11 + length (c .phrase) + length (c .title) + length (dueBytes Dates (daysBody (c .days)))
+pub cue-length : (c : Cue) → length (cueBytes c) ≡ 11 + length (c .phrase) + length (c .title) + length (dueBytes Dates (daysBody (c .days))) + length (dueBytes House (markBody (c .mark)))
 unfolding cueBytes formBytes
 cue-length c =
     let dates : List ℕ = dueBytes Dates (daysBody (c .days)) in
-    let title : List ℕ = fieldBytes 3 (c .title) ++ (dates ++ []) in
-    omega
-    (arith, length-append (fieldBytes 1 (c .phrase)) (fieldBytes 2 (twoBytes (c .ordinal)) ++ title), length-append (fieldBytes 3 (c .title)) (dates ++ []), length-append dates [])
+    let mark : List ℕ = dueBytes House (markBody (c .mark)) in
+    let title : List ℕ = fieldBytes 3 (c .title) ++ (dates ++ (mark ++ [])) in
+    omega (
+      arith,
+      length-append (fieldBytes 1 (c .phrase)) (fieldBytes 2 (twoBytes (c .ordinal)) ++ title),
+      length-append (fieldBytes 3 (c .title)) (dates ++ (mark ++ [])),
+      length-append dates (mark ++ []),
+      length-append mark [],
+    )
 
 -- its dates take at most 7 bytes
 pub dates-most : (d : Days) → length (dueBytes Dates (daysBody d)) ≤ 7
 dates-most Always = omega arith
 dates-most (Within first last) = omega arith
 
+-- and its mark at most 4
+pub mark-most : (k : Mark) → length (dueBytes House (markBody k)) ≤ 4
+mark-most Unmarked = omega arith
+mark-most Open = omega arith
+mark-most HouseOnly = omega arith
+
 -- ---- the refusals
 
 -- a cue whose days are refused is refused with 16, whatever else is wrong with it
-pub days-first : (c : Cue) (capacity : ℕ) → (datesRefusal (c .days) ≡ 0 → ⊥) → writeRefusal c capacity ≡ 16
+pub days-first : (c : Cue) (house capacity : ℕ) → (datesRefusal (c .days) ≡ 0 → ⊥) → writeRefusal c house capacity ≡ 16
 unfolding writeRefusal firstMet
-days-first c capacity some = rw (ne-eqb (datesRefusal (c .days)) 0 some) refl
+days-first c house capacity some = rw (ne-eqb (datesRefusal (c .days)) 0 some) refl
 
 -- ---- a cue that is written is valid, and fits
 
@@ -48,10 +62,10 @@ pub record Fitting (c : Cue) (capacity : ℕ) : Type 0 where
   pub valid : Valid c
   pub fits : length (cueBytes c) ≤ capacity
 
-pub fitting : (c : Cue) (capacity : ℕ) → writeRefusal c capacity ≡ 0 → Fitting c capacity
+pub fitting : (c : Cue) (house capacity : ℕ) → writeRefusal c house capacity ≡ 0 → Fitting c capacity
 unfolding writeRefusal Passed numbersTo
-fitting c capacity e =
-    let dated = all-passed 16 (writeTests c capacity) refl e in
+fitting c house capacity e =
+    let dated = all-passed 16 (writeTests c house capacity) refl e in
     let p = dated .1 in
     let named = p .1 .1 in
     let shown = named .1 .1 in
@@ -65,7 +79,7 @@ fitting c capacity e =
             shown = ltb-false 200 (length (c .title)) (shown .0);
             dated = eqb-true (datesRefusal (c .days)) 0 (not-false (eqb (datesRefusal (c .days)) 0) (dated .0));
           };
-      fits = ltb-false capacity (length (cueBytes c)) (shown .1 .0);
+      fits = ltb-false capacity (length (cueBytes c)) (shown .1 .1 .0);
     }
 
 -- ---- the pieces of fields in the order of a list, and of a cue
@@ -106,14 +120,14 @@ laid-cue c buffer long l =
     let whole = laid-front (cuePieces c) buffer (omega (arith, ap length (joined-cue c))) l in
     (whole .0 ∙ ap length (joined-cue c), whole .1 ∙ ap (λ (x : List ℕ). x ++ drop (length x) buffer) (joined-cue c))
 
-module _ {c : Cue} {buffer : List ℕ} where
-  pub written-refused : {number : ℕ} → number ≡ writeRefusal c (length buffer) → (number ≡ 0 → ⊥) → Written c buffer (record { refusal = number; number = 0 }) buffer
+module _ {c : Cue} {house : ℕ} {buffer : List ℕ} where
+  pub written-refused : {number : ℕ} → number ≡ writeRefusal c house (length buffer) → (number ≡ 0 → ⊥) → Written c house buffer (record { refusal = number; number = 0 }) buffer
   written-refused {number} e some =
-      let off = ne-eqb (writeRefusal c (length buffer)) 0 (λ z. some (e ∙ z)) in
+      let off = ne-eqb (writeRefusal c house (length buffer)) 0 (λ z. some (e ∙ z)) in
       record { answer = rw off (ap (λ (n : ℕ). record { refusal = n; number = 0 }) e); left = rw off }
 
-  pub written-whole : {at : ℕ} {buffer′ : List ℕ} → writeRefusal c (length buffer) ≡ 0 → Laid buffer′ at (putAll buffer 0 (cuePieces c)) → Written c buffer (record { refusal = 0; number = at }) buffer′
+  pub written-whole : {at : ℕ} {buffer′ : List ℕ} → writeRefusal c house (length buffer) ≡ 0 → Laid buffer′ at (putAll buffer 0 (cuePieces c)) → Written c house buffer (record { refusal = 0; number = at }) buffer′
   written-whole e l =
-      let on = eq-eqb (writeRefusal c (length buffer)) 0 e in
-      let w = laid-cue c buffer (fitting c (length buffer) e .fits) l in
+      let on = eq-eqb (writeRefusal c house (length buffer)) 0 e in
+      let w = laid-cue c buffer (fitting c house (length buffer) e .fits) l in
       record { answer = rw (on, e) (ap (λ (n : ℕ). record { refusal = 0; number = n }) (w .0)); left = rw on (w .1) }

@@ -10,10 +10,11 @@ use Rattle.cue_writer.specs.Writing.{Written}
 
 -- these are the bytes that writing the cue put at the start of some buffer
 pub record WroteCue (c : Cue) (bytes : List ℕ) : Type 0 where
+  pub house : ℕ
   pub buffer : List ℕ
   pub buffer′ : List ℕ
   pub answer : Answer
-  pub wrote : Written c buffer answer buffer′
+  pub wrote : Written c house buffer answer buffer′
   pub accepted : answer .refusal ≡ 0
   pub is : bytes ≡ take (answer .number) buffer′
 

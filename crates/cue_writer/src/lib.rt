@@ -1,4 +1,4 @@
-// This crate writes a cue, with its dates where it has any (document 01, "Cue book, folding, lines"; document 02, (viii)).
+// This crate writes a cue, with its dates where it has any and its mark where it is for the house only (document 01, "Cue book, folding, lines"; document 02, (viii) and (xiv)).
 // It depends on `cues` and `cue_book` for the format, on `cue_fields` for a field's bytes, on `calendar` for the days that there are, on `pieces` for laying the fields out, and on `matching` for its tables of refusals and the answer that a call gives.
 // Demand 2 is carried by proofs/Inverse.antt: what is written reads back (`written-reads`), and what is accepted was so written (`accepted-written`).
 use cues::Days;
@@ -7,10 +7,10 @@ ghost use mathlib.Core.Path.{_≡_};
 ghost use Prim.Native.Nat.{_≤_};
 ghost use lib.ListN.{length};
 ghost use Rattle.pieces.specs.Pieces.{Laid, putAll};
-ghost use Rattle.cue_fields.specs.declared.Due.the-variants.{Dates};
+ghost use Rattle.cue_fields.specs.declared.Due.the-variants.{Dates, House};
 ghost use Rattle.cue_fields.specs.Form.{dueBytes};
-ghost use Rattle.cues.specs.Cue.{cueWith, daysBody, datesRefusal};
-ghost use Rattle.cue_writer.specs.Writing.{writeRefusal, Written, fieldPieces, duePieces};
+ghost use Rattle.cues.specs.Cue.{cueWith, daysBody, markBody, datesRefusal};
+ghost use Rattle.cue_writer.specs.Writing.{markGiven, writeRefusal, Written, fieldPieces, duePieces};
 
 // The refusal of a cue's days, 0 for none.
 fn dates_refused(days: Days) -> u32
@@ -32,9 +32,26 @@ fn dates_len(days: Days) -> usize
     }
 }
 
+// The length of the house mark: an open cue has none.
+fn mark_len(house: u32) -> usize
+    ensures { λ r. ⌜ r ≡ length (dueBytes House (markBody (markGiven house))) ⌝ }
+{
+    if house == 0 {
+        return 0;
+    }
+    4
+}
+
 // The refusal of a cue to be written into a buffer of so many bytes, 0 for none.
-fn write_refusal(phrase: &[u8], ordinal: u32, title: &[u8], days: Days, capacity: usize) -> u32
-    ensures { λ r. ⌜ r ≡ writeRefusal (cueWith (now (phrase .entry)) ordinal (now (title .entry)) days) capacity ⌝ }
+fn write_refusal(
+    phrase: &[u8],
+    ordinal: u32,
+    title: &[u8],
+    days: Days,
+    house: u32,
+    capacity: usize,
+) -> u32
+    ensures { λ r. ⌜ r ≡ writeRefusal (cueWith (now (phrase .entry)) ordinal (now (title .entry)) days (markGiven house)) house capacity ⌝ }
 {
     if dates_refused(days) != 0 {
         return 16;
@@ -54,7 +71,10 @@ fn write_refusal(phrase: &[u8], ordinal: u32, title: &[u8], days: Days, capacity
     if 200 < title.len() {
         return 9;
     }
-    if capacity < 11 + phrase.len() + title.len() + dates_len(days) {
+    if 1 < house {
+        return 9;
+    }
+    if capacity < 11 + phrase.len() + title.len() + dates_len(days) + mark_len(house) {
         return 13;
     }
     0
@@ -71,7 +91,7 @@ fn put_field(buffer: &mut [u8], at: usize, tag: u8, body: &[u8]) -> usize
     pieces::put_bytes(buffer, next, body)
 }
 
-// Lays the dates out in the buffer from `at` on, where the cue has any: where the cue ends.
+// Lays the dates out in the buffer from `at` on, where the cue has any: where they end.
 fn put_dates(buffer: &mut [u8], at: usize, days: Days) -> usize
     requires { ⌜ datesRefusal days ≡ 0 ⌝ }
     ensures { λ r. ⌜ Laid (now (buffer .exit)) r (putAll (now (buffer .entry)) at (duePieces Dates (daysBody days))) ⌝ }
@@ -87,11 +107,29 @@ fn put_dates(buffer: &mut [u8], at: usize, days: Days) -> usize
     put_field(buffer, at, 4, &dates)
 }
 
-// Writes a cue at the buffer's start: 0 and its length, or the refusal and 0.
-pub fn write_cue(buffer: &mut [u8], phrase: &[u8], ordinal: u32, title: &[u8], days: Days) -> Answer
-    ensures { λ r. ⌜ Written (cueWith (now (phrase .entry)) ordinal (now (title .entry)) days) (now (buffer .entry)) r (now (buffer .exit)) ⌝ }
+// Lays the house mark out in the buffer from `at` on, where the cue is for the house only: where the cue ends.
+fn put_mark(buffer: &mut [u8], at: usize, house: u32) -> usize
+    ensures { λ r. ⌜ Laid (now (buffer .exit)) r (putAll (now (buffer .entry)) at (duePieces House (markBody (markGiven house)))) ⌝ }
 {
-    let refusal = write_refusal(phrase, ordinal, title, days, buffer.len());
+    if house == 0 {
+        return at;
+    }
+    let mark = [1];
+    put_field(buffer, at, 5, &mark)
+}
+
+// Writes a cue at the buffer's start, open with `house` 0 and for the house only with 1: 0 and its length, or the refusal and 0.
+pub fn write_cue(
+    buffer: &mut [u8],
+    phrase: &[u8],
+    ordinal: u32,
+    title: &[u8],
+    days: Days,
+    house: u32,
+) -> Answer
+    ensures { λ r. ⌜ Written (cueWith (now (phrase .entry)) ordinal (now (title .entry)) days (markGiven house)) house (now (buffer .entry)) r (now (buffer .exit)) ⌝ }
+{
+    let refusal = write_refusal(phrase, ordinal, title, days, house, buffer.len());
     if refusal != 0 {
         return Answer { refusal, number: 0 };
     }
@@ -100,6 +138,7 @@ pub fn write_cue(buffer: &mut [u8], phrase: &[u8], ordinal: u32, title: &[u8], d
     at = put_field(buffer, at, 2, &number);
     at = put_field(buffer, at, 3, title);
     at = put_dates(buffer, at, days);
+    at = put_mark(buffer, at, house);
     let length = at as u32;
     Answer {
         refusal: 0,

@@ -8,7 +8,7 @@ use lib.Dec.{leb}
 use denote.Enum.Declared as declared
 use borrow.Author.Tests.{eq-eqb, ne-eqb, leb-true}
 use Rattle.matching.proofs.CaseAnalysis.{both}
-use Rattle.cue_fields.specs.declared.Due.the-variants.{Phrase, Ordinal, Title, Dates}
+use Rattle.cue_fields.specs.declared.Due.the-variants.{Phrase, Ordinal, Title, Dates, House}
 use Rattle.cue_fields.specs.Field.{numberIn, fieldLength, fieldSize, fieldBody, afterField, part}
 use Rattle.cue_fields.specs.Form.{dueSize, dueBody, formSize, afterForm, formBodies}
 use Rattle.cue_fields.proofs.Fields.{Fielded, after-field, told-apart, firstOf}
@@ -18,7 +18,8 @@ use Rattle.cues.specs.declared.CueAnswer.{CueAnswer}
 use Rattle.cues.specs.declared.CueAnswer.the-variants as answer
 use Rattle.cues.proofs.CueAnswer as answers
 use Rattle.cues.specs.declared.Days.{Days}
-use Rattle.cues.specs.Cue.{Cue, cueWith, cueForm, headForm, daysFrom, cueFrom}
+use Rattle.cues.specs.declared.Mark.{Mark}
+use Rattle.cues.specs.Cue.{Cue, cueWith, cueForm, headForm, daysFrom, markFrom, cueFrom}
 use Rattle.cues.specs.Reading.{cueRefusal, cueSize, cueOf}
 use Rattle.cues.specs.Places.{cueNumber, cueEnd, cuesMeant, titleStart, titleLength, titleEnd, cueAt, CueRead}
 
@@ -33,13 +34,13 @@ module _ (rest : List ℕ) where
   -- one that is read begins with a phrase and an ordinal, takes some bytes, and no more than there are
   pub cue-phrase : cueRefusal rest ≡ 0 → Fielded Phrase rest
   unfolding cueRefusal
-  cue-phrase e = due-fielded Phrase rest refl (form-fine Phrase (Ordinal ∷ Title ∷ Dates ∷ []) rest e .0)
+  cue-phrase e = due-fielded Phrase rest refl (form-fine Phrase (Ordinal ∷ Title ∷ Dates ∷ House ∷ []) rest e .0)
 
   pub cue-ordinal : cueRefusal rest ≡ 0 → Fielded Ordinal (afterField rest)
   unfolding cueRefusal dueSize
   cue-ordinal e =
-      let f = form-fine Phrase (Ordinal ∷ Title ∷ Dates ∷ []) rest e .1 in
-      due-fielded Ordinal (afterField rest) refl (form-fine Ordinal (Title ∷ Dates ∷ []) (afterField rest) f .0)
+      let f = form-fine Phrase (Ordinal ∷ Title ∷ Dates ∷ House ∷ []) rest e .1 in
+      due-fielded Ordinal (afterField rest) refl (form-fine Ordinal (Title ∷ Dates ∷ House ∷ []) (afterField rest) f .0)
 
   pub cue-some : cueRefusal rest ≡ 0 → length rest ≡ 0 → ⊥
   cue-some e z = omega (arith, cue-phrase e .header)
@@ -78,23 +79,25 @@ module _ (book : List ℕ) (place : ℕ) where
 -- its fields, read one after another
 module _
     {book : List ℕ}
-    {place phrase phrase-end body ordinal-end title title-end dates end : ℕ}
+    {place phrase phrase-end body ordinal-end title title-end dates dates-end house end : ℕ}
     (p : DueAt book place Phrase phrase phrase-end)
     (o : DueAt book phrase-end Ordinal body ordinal-end)
     (t : DueAt book ordinal-end Title title title-end)
-    (d : DueAt book title-end Dates dates end)
+    (d : DueAt book title-end Dates dates dates-end)
+    (h : DueAt book dates-end House house end)
   where
     fields-none : cueRefusal (drop place book) ≡ 0
     unfolding cueRefusal
-    fields-none = step-refusal p (Ordinal ∷ Title ∷ Dates ∷ []) ∙ step-refusal o (Title ∷ Dates ∷ []) ∙ step-refusal t (Dates ∷ []) ∙ step-refusal d [] ∙ form-none (drop end book) .0
+    fields-none = step-refusal p (Ordinal ∷ Title ∷ Dates ∷ House ∷ []) ∙ step-refusal o (Title ∷ Dates ∷ House ∷ []) ∙ step-refusal t (Dates ∷ House ∷ []) ∙ step-refusal d (House ∷ []) ∙ step-refusal h [] ∙ form-none (drop end book) .0
 
-    fields-value : cueWith (part book phrase phrase-end) (numberIn (part book body ordinal-end)) (part book title title-end) (daysFrom (part book dates end)) ≡ cueOf (drop place book)
+    fields-value : cueWith (part book phrase phrase-end) (numberIn (part book body ordinal-end)) (part book title title-end) (daysFrom (part book dates dates-end)) (markFrom (part book house end)) ≡ cueOf (drop place book)
     unfolding cueOf
     fields-value =
-        let fourth = step-bodies d [] ∙ ap (λ (l : List (List ℕ)). part book dates end ∷ l) (form-none (drop end book) .2) in
-        let third = step-bodies t (Dates ∷ []) ∙ ap (λ (l : List (List ℕ)). part book title title-end ∷ l) fourth in
-        let second = step-bodies o (Title ∷ Dates ∷ []) ∙ ap (λ (l : List (List ℕ)). part book body ordinal-end ∷ l) third in
-        ap cueFrom (sym (step-bodies p (Ordinal ∷ Title ∷ Dates ∷ []) ∙ ap (λ (l : List (List ℕ)). part book phrase phrase-end ∷ l) second))
+        let fifth = step-bodies h [] ∙ ap (λ (l : List (List ℕ)). part book house end ∷ l) (form-none (drop end book) .2) in
+        let fourth = step-bodies d (House ∷ []) ∙ ap (λ (l : List (List ℕ)). part book dates dates-end ∷ l) fifth in
+        let third = step-bodies t (Dates ∷ House ∷ []) ∙ ap (λ (l : List (List ℕ)). part book title title-end ∷ l) fourth in
+        let second = step-bodies o (Title ∷ Dates ∷ House ∷ []) ∙ ap (λ (l : List (List ℕ)). part book body ordinal-end ∷ l) third in
+        ap cueFrom (sym (step-bodies p (Ordinal ∷ Title ∷ Dates ∷ House ∷ []) ∙ ap (λ (l : List (List ℕ)). part book phrase phrase-end ∷ l) second))
 
     -- where its phrase ends, where its title stands, and where it ends
     phrase-ends : phrase-end ≡ place + fieldSize (drop place book)
@@ -114,18 +117,20 @@ module _
     cue-ends : end ≡ place + cueSize (drop place book)
     cue-ends =
         omega
-        (arith, step-size p (Ordinal ∷ Title ∷ Dates ∷ []), step-size o (Title ∷ Dates ∷ []), step-size t (Dates ∷ []), step-size d [], form-none (drop end book) .1)
+        (arith, step-size p (Ordinal ∷ Title ∷ Dates ∷ House ∷ []), step-size o (Title ∷ Dates ∷ House ∷ []), step-size t (Dates ∷ House ∷ []), step-size d (House ∷ []), step-size h [], form-none (drop end book) .1)
 
-    pub cue-read : {ordinal : ℕ} {days : Days} → ordinal ≡ numberIn (part book body ordinal-end) → days ≡ daysFrom (part book dates end)
-        → CueRead book place (answer.Cue phrase phrase-end ordinal title title-end days end)
+    pub cue-read : {ordinal : ℕ} {days : Days} {mark : Mark} → ordinal ≡ numberIn (part book body ordinal-end) → days ≡ daysFrom (part book dates dates-end) → mark ≡ markFrom (part book house end)
+        → CueRead book place (answer.Cue phrase phrase-end ordinal title title-end days mark end)
     unfolding cueAt
-    cue-read {ordinal} {days} e g =
+    cue-read {ordinal} {days} {mark} e g k =
         let rest : List ℕ = drop place book in
         let on = eq-eqb (cueRefusal rest) 0 fields-none in
-        let value : cueWith (part book phrase phrase-end) ordinal (part book title title-end) days ≡ cueOf rest =
-        ap₂ (λ (n : ℕ) (x : Days). cueWith (part book phrase phrase-end) n (part book title title-end) x) e g ∙ fields-value in
+        let value : cueWith (part book phrase phrase-end) ordinal (part book title title-end) days mark ≡ cueOf rest =
+        ap₂ (λ (n : ℕ) (x : Days). cueWith (part book phrase phrase-end) n (part book title title-end) x mark) e g
+        ∙ ap (cueWith (part book phrase phrase-end) (numberIn (part book body ordinal-end)) (part book title title-end) (daysFrom (part book dates dates-end))) k
+        ∙ fields-value in
         record {
-          answer = rw on (rw (p .start-is refl, phrase-ends, ap (λ (c : Cue). c .ordinal) value, title-starts, title-stops, ap (λ (c : Cue). c .days) value, cue-ends) refl);
+          answer = rw on (rw (p .start-is refl, phrase-ends, ap (λ (c : Cue). c .ordinal) value, title-starts, title-stops, ap (λ (c : Cue). c .days) value, ap (λ (c : Cue). c .mark) value, cue-ends) refl);
           number = sym fields-none;
           meant = rw on (ap (λ (c : Cue). c ∷ []) value);
         }
@@ -133,34 +138,34 @@ module _
 -- ---- a cue's answer taken apart
 
 -- the cue was read: it stands there
-pub record CueAt (book : List ℕ) (place phrase phrase-end ordinal title title-end : ℕ) (days : Days) (end : ℕ) : Type 0 where
+pub record CueAt (book : List ℕ) (place phrase phrase-end ordinal title title-end : ℕ) (days : Days) (mark : Mark) (end : ℕ) : Type 0 where
   pub none : cueRefusal (drop place book) ≡ 0
   pub phrase-is : phrase ≡ place + 3
   pub phrase-end-is : phrase-end ≡ place + fieldSize (drop place book)
   pub title-is : title ≡ place + titleStart (drop place book)
   pub title-end-is : title-end ≡ place + titleEnd (drop place book)
   pub end-is : end ≡ place + cueSize (drop place book)
-  pub meant : cueWith (part book phrase phrase-end) ordinal (part book title title-end) days ≡ cueOf (drop place book)
+  pub meant : cueWith (part book phrase phrase-end) ordinal (part book title title-end) days mark ≡ cueOf (drop place book)
 
 phraseOf : CueAnswer → ℕ
-phraseOf (answer.Cue phrase phrase-end ordinal title title-end days end) = phrase
+phraseOf (answer.Cue phrase phrase-end ordinal title title-end days mark end) = phrase
 phraseOf (answer.Refused number) = 0
 
 phraseEnd : CueAnswer → ℕ
-phraseEnd (answer.Cue phrase phrase-end ordinal title title-end days end) = phrase-end
+phraseEnd (answer.Cue phrase phrase-end ordinal title title-end days mark end) = phrase-end
 phraseEnd (answer.Refused number) = 0
 
 titleOf : CueAnswer → ℕ
-titleOf (answer.Cue phrase phrase-end ordinal title title-end days end) = title
+titleOf (answer.Cue phrase phrase-end ordinal title title-end days mark end) = title
 titleOf (answer.Refused number) = 0
 
 titleStops : CueAnswer → ℕ
-titleStops (answer.Cue phrase phrase-end ordinal title title-end days end) = title-end
+titleStops (answer.Cue phrase phrase-end ordinal title title-end days mark end) = title-end
 titleStops (answer.Refused number) = 0
 
 module _ {book : List ℕ} {place : ℕ} {r : CueAnswer} (read : CueRead book place r) where
-  pub cue-at : {phrase phrase-end ordinal title title-end end : ℕ} {days : Days} → r ≡ answer.Cue phrase phrase-end ordinal title title-end days end
-      → CueAt book place phrase phrase-end ordinal title title-end days end
+  pub cue-at : {phrase phrase-end ordinal title title-end end : ℕ} {days : Days} {mark : Mark} → r ≡ answer.Cue phrase phrase-end ordinal title title-end days mark end
+      → CueAt book place phrase phrase-end ordinal title title-end days mark end
   unfolding cueAt phraseOf phraseEnd titleOf titleStops firstOf
   cue-at e =
       let none : cueRefusal (drop place book) ≡ 0 = sym (read .number) ∙ ap cueNumber e in
@@ -180,7 +185,7 @@ module _ {book : List ℕ} {place : ℕ} {r : CueAnswer} (read : CueRead book pl
   cue-refused-some t z =
       let on = eq-eqb (cueRefusal (drop place book)) 0 (sym (read .number) ∙ z) in
       let rest : List ℕ = drop place book in
-      let is : r ≡ answer.Cue (place + 3) (place + fieldSize rest) (cueOf rest .ordinal) (place + titleStart rest) (place + titleEnd rest) (cueOf rest .days) (place + cueSize rest) = read .answer ∙ rw on in
+      let is : r ≡ answer.Cue (place + 3) (place + fieldSize rest) (cueOf rest .ordinal) (place + titleStart rest) (place + titleEnd rest) (cueOf rest .days) (cueOf rest .mark) (place + cueSize rest) = read .answer ∙ rw on in
       told-apart (declared.tagOf answers.the-type) is refl t
 
 -- the phrase lies in the book, and its length is allowed
@@ -190,7 +195,7 @@ pub record PhraseInside (book : List ℕ) (phrase phrase-end : ℕ) : Type 0 whe
   pub some : 1 ≤ phrase-end - phrase
   pub short : phrase-end - phrase ≤ 1024
 
-pub phrase-inside : {book : List ℕ} {place phrase phrase-end ordinal title title-end end : ℕ} {days : Days} → CueAt book place phrase phrase-end ordinal title title-end days end → PhraseInside book phrase phrase-end
+pub phrase-inside : {book : List ℕ} {place phrase phrase-end ordinal title title-end end : ℕ} {days : Days} {mark : Mark} → CueAt book place phrase phrase-end ordinal title title-end days mark end → PhraseInside book phrase phrase-end
 phrase-inside {book} {place} c =
     let f = cue-phrase (drop place book) (c .none) in
     let lengths = both (leb 1 (fieldLength (drop place book))) (leb (fieldLength (drop place book)) 1024) (f .lengths) in
@@ -204,6 +209,6 @@ phrase-inside {book} {place} c =
     }
 
 -- the title's length, and that the cue ends further on
-pub title-ends : {book : List ℕ} {place phrase phrase-end ordinal title title-end end : ℕ} {days : Days} → CueAt book place phrase phrase-end ordinal title title-end days end
+pub title-ends : {book : List ℕ} {place phrase phrase-end ordinal title title-end end : ℕ} {days : Days} {mark : Mark} → CueAt book place phrase phrase-end ordinal title title-end days mark end
     → (title-end ≡ title + titleLength (drop place book)) × (place < end)
 title-ends {book} {place} c = (omega (arith, c .title-is, c .title-end-is), omega (arith, c .end-is, title-last (drop place book)))

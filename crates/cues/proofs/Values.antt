@@ -3,22 +3,24 @@
 use mathlib.Core.Path.{_≡_, refl, sym, ap, ap₂, _∙_}
 use Prim.Native.Nat.{ℕ, _+_, _*_, _/_, _%_, _≤_, _<_}
 use native.Mathlib.Omega.{arith}
-use mathlib.Core.Bool.{false, false≢true}
+use mathlib.Core.Bool.{true, false, cond, false≢true}
 use mathlib.Core.List.{List, [], _∷_, _++_}
 use lib.ListN.{length, getD}
 use lib.Dec.{eqb, leb}
-use borrow.Author.Tests.{ne-eqb, eqb-true, eqb-false, le-leb, leb-true}
+use borrow.Author.Tests.{ne-eqb, eqb-true, eqb-false, ltb-false, le-leb, leb-true}
 use Rattle.matching.specs.Refusals.{firstMet}
 use Rattle.matching.proofs.Refusals.{Passed, numbersTo, all-passed}
-use Rattle.matching.proofs.CaseAnalysis.{both}
+use Rattle.matching.proofs.CaseAnalysis.{by-test, both}
 use Rattle.calendar.specs.Calendar.{daysRefusal}
-use Rattle.cue_fields.specs.declared.Due.the-variants.{Phrase, Ordinal, Title, Dates}
-use Rattle.cue_fields.specs.Field.{twoBytes, numberIn, firstIn, lastIn, valueTests}
+use Rattle.cue_fields.specs.declared.Due.the-variants.{Phrase, Ordinal, Title, Dates, House}
+use Rattle.cue_fields.specs.Field.{twoBytes, numberIn, firstIn, lastIn, markIn, valueTests}
 use Rattle.cue_fields.specs.Form.{dueSize, dueBody, afterDue, formBodies, formBytes, Sound, AllSound, Other, Told, Bytes}
 use Rattle.cue_fields.proofs.Form.{two-number, form-back, form-put, bytes-drop, body-bytes}
 use Rattle.cues.specs.declared.Days.{Days}
 use Rattle.cues.specs.declared.Days.the-variants.{Always, Within}
-use Rattle.cues.specs.Cue.{Cue, cueWith, cueForm, daysBody, daysFrom, cueBodies, cueFrom, cueBytes, datesRefusal, Valid}
+use Rattle.cues.specs.declared.Mark.{Mark}
+use Rattle.cues.specs.declared.Mark.the-variants.{Unmarked, Open, HouseOnly}
+use Rattle.cues.specs.Cue.{Cue, cueWith, cueForm, daysBody, daysFrom, markBody, markFrom, cueBodies, cueFrom, cueBytes, datesRefusal, Valid}
 use Rattle.cues.specs.Reading.{cueRefusal, cueOf, afterCue, Apart, CueReadsBack, CueWasWritten}
 
 -- ---- a valid cue, by its bodies
@@ -32,13 +34,28 @@ unfolding daysFrom
 days-back Always = refl
 days-back (Within first last) = let n = days-numbers first last in ap₂ Within (n .0) (n .1)
 
+-- a mark, from its byte
+mark-back : (k : Mark) → markFrom (markBody k) ≡ k
+unfolding markFrom
+mark-back Unmarked = refl
+mark-back Open = refl
+mark-back HouseOnly = refl
+
 bodies-back : (c : Cue) → cueFrom (cueBodies c) ≡ c
-bodies-back c = ap₂ (λ (n : ℕ) (d : Days). cueWith (c .phrase) n (c .title) d) (two-number (c .ordinal) []) (days-back (c .days))
+bodies-back c =
+    ap₂ (λ (n : ℕ) (d : Days). cueWith (c .phrase) n (c .title) d (markFrom (markBody (c .mark)))) (two-number (c .ordinal) []) (days-back (c .days))
+    ∙ ap (cueWith (c .phrase) (c .ordinal) (c .title) (c .days)) (mark-back (c .mark))
 
 days-sound : (d : Days) → datesRefusal d ≡ 0 → Sound Dates (daysBody d)
 unfolding daysRefusal
 days-sound Always e = record { lengths = λ f. absurd (false≢true (sym f)); value = λ f. absurd (false≢true (sym f)) }
 days-sound (Within first last) e = let n = days-numbers first last in record { lengths = λ _. refl; value = λ _. ap₂ daysRefusal (n .0) (n .1) ∙ e }
+
+mark-sound : (k : Mark) → Sound House (markBody k)
+unfolding firstMet
+mark-sound Unmarked = record { lengths = λ f. absurd (false≢true (sym f)); value = λ f. absurd (false≢true (sym f)) }
+mark-sound Open = record { lengths = λ _. refl; value = λ _. refl }
+mark-sound HouseOnly = record { lengths = λ _. refl; value = λ _. refl }
 
 valid-sound : (c : Cue) → Valid c → AllSound cueForm (cueBodies c)
 unfolding AllSound firstMet
@@ -47,12 +64,12 @@ valid-sound c v =
     let named : eqb (numberIn (twoBytes (c .ordinal))) 0 ≡ false = ne-eqb (numberIn (twoBytes (c .ordinal))) 0 (λ z. omega (arith, two-number (c .ordinal) [], v .named)) in
     let ordinal : Sound Ordinal (twoBytes (c .ordinal)) = record { lengths = λ _. refl; value = λ _. rw named } in
     let title : Sound Title (c .title) = record { lengths = λ _. le-leb (length (c .title)) 200 (v .shown); value = λ _. refl } in
-    (phrase, (ordinal, (title, (days-sound (c .days) (v .dated), tt))))
+    (phrase, (ordinal, (title, (days-sound (c .days) (v .dated), (mark-sound (c .mark), tt)))))
 
--- what stands apart tells whether dates were left out, and no other field may be
+-- what stands apart tells whether dates and the mark were left out, and no other field may be
 told : (more : List ℕ) → Apart more → Told cueForm more
 unfolding Told Other
-told more apart = (λ o. absurd (false≢true o), (λ o. absurd (false≢true o), (λ o. absurd (false≢true o), (λ _. apart, tt))))
+told more apart = (λ o. absurd (false≢true o), (λ o. absurd (false≢true o), (λ o. absurd (false≢true o), (λ _. (λ e. omega (arith, e), apart .0), (λ _. apart .1, tt)))))
 
 -- its bytes, before anything that stands apart, read back as that cue
 pub cue-back : (c : Cue) → Valid c → (more : List ℕ) → Apart more → CueReadsBack c more
@@ -64,7 +81,7 @@ cue-back c v more apart =
 -- a cue begins with the tag of its phrase, so its bytes stand apart
 pub cue-apart : (c : Cue) (more : List ℕ) → Apart (cueBytes c ++ more)
 unfolding cueBytes formBytes
-cue-apart c more z = omega (arith, z)
+cue-apart c more = (λ z. omega (arith, z), λ z. omega (arith, z))
 
 -- ---- sound bodies, by the cue that they are
 
@@ -103,19 +120,35 @@ dates-meant (x ∷ l) b s =
     let here : eqb (length (x ∷ l)) 0 ≡ false = ne-eqb (length (x ∷ l)) 0 (λ z. omega arith) in
     (four-back (x ∷ l) (eqb-true (length (x ∷ l)) 4 (s .lengths here)) b, s .value here)
 
+-- the byte of a sound mark is 0 or 1, so it is that of its mark
+mark-meant : (body : List ℕ) → Sound House body → markBody (markFrom body) ≡ body
+unfolding markFrom Passed numbersTo
+mark-meant [] s = refl
+mark-meant (x ∷ []) s =
+    let small = ltb-false 1 x (all-passed 9 (valueTests House (x ∷ [])) refl (s .value refl) .0) in
+    by-test (λ t. (eqb x 0 ≡ t) → markBody (cond t Open HouseOnly) ≡ x ∷ []) (eqb x 0)
+    (λ _ t. ap (λ (n : ℕ). n ∷ []) (sym (eqb-true x 0 t)))
+    (λ _ t. let one : 1 ≡ x = omega (arith, small, eqb-false x 0 t) in ap (λ (n : ℕ). n ∷ []) one)
+    refl
+mark-meant (x ∷ y ∷ l) s =
+    let here : eqb (length (x ∷ y ∷ l)) 0 ≡ false = ne-eqb (length (x ∷ y ∷ l)) 0 (λ z. omega arith) in
+    absurd (omega (arith, eqb-true (length (x ∷ y ∷ l)) 1 (s .lengths here)))
+
 -- bodies that are sound are those of a valid cue
 record Meant (bodies : List (List ℕ)) : Type 0 where
   back : cueBodies (cueFrom bodies) ≡ bodies
   valid : Valid (cueFrom bodies)
 
-sound-valid : (phrase ordinal title dates : List ℕ) → Bytes ordinal → Bytes dates → AllSound cueForm (phrase ∷ ordinal ∷ title ∷ dates ∷ []) → Meant (phrase ∷ ordinal ∷ title ∷ dates ∷ [])
+sound-valid : (phrase ordinal title dates house : List ℕ) → Bytes ordinal → Bytes dates → AllSound cueForm (phrase ∷ ordinal ∷ title ∷ dates ∷ house ∷ []) → Meant (phrase ∷ ordinal ∷ title ∷ dates ∷ house ∷ [])
 unfolding AllSound
-sound-valid phrase ordinal title dates b d s =
+sound-valid phrase ordinal title dates house b d s =
     let lengths = both (leb 1 (length phrase)) (leb (length phrase) 1024) (s .0 .lengths refl) in
     let o = s .1 .0 in
     let days = dates-meant dates d (s .1 .1 .1 .0) in
     record {
-      back = ap₂ (λ (l m : List ℕ). phrase ∷ l ∷ title ∷ m ∷ []) (two-back ordinal (eqb-true (length ordinal) 2 (o .lengths refl)) (b 1)) (days .0);
+      back =
+          ap₂ (λ (l m : List ℕ). phrase ∷ l ∷ title ∷ m ∷ markBody (markFrom house) ∷ []) (two-back ordinal (eqb-true (length ordinal) 2 (o .lengths refl)) (b 1)) (days .0)
+          ∙ ap (λ (l : List ℕ). phrase ∷ ordinal ∷ title ∷ dates ∷ l ∷ []) (mark-meant house (s .1 .1 .1 .1 .0));
       valid =
           record {
             some = leb-true 1 (length phrase) (lengths .0);
@@ -137,5 +170,5 @@ cue-put rest b e =
     let fourth : List ℕ = afterDue Title third in
     let b₂ : Bytes second = bytes-drop rest (dueSize Phrase rest) b in
     let b₄ : Bytes fourth = bytes-drop third (dueSize Title third) (bytes-drop second (dueSize Ordinal second) b₂) in
-    let m = sound-valid (dueBody Phrase rest) (dueBody Ordinal second) (dueBody Title third) (dueBody Dates fourth) (body-bytes Ordinal second b₂) (body-bytes Dates fourth b₄) (f .sound) in
+    let m = sound-valid (dueBody Phrase rest) (dueBody Ordinal second) (dueBody Title third) (dueBody Dates fourth) (dueBody House (afterDue Dates fourth)) (body-bytes Ordinal second b₂) (body-bytes Dates fourth b₄) (f .sound) in
     record { is = f .is ∙ ap (λ (l : List (List ℕ)). formBytes cueForm l ++ afterCue rest) (sym (m .back)); valid = m .valid }

@@ -14,17 +14,17 @@ use Rattle.cues.specs.Reading.{cueRefusal, cueSize, cueOf}
 
 -- the refusal's number of an answer, 0 for a cue
 abbrev pub cueNumber : CueAnswer → ℕ
-cueNumber (answer.Cue phrase phrase-end ordinal title title-end days end) = 0
+cueNumber (answer.Cue phrase phrase-end ordinal title title-end days mark end) = 0
 cueNumber (answer.Refused number) = number
 
 -- the place after the cue, 0 for a refusal
 abbrev pub cueEnd : CueAnswer → ℕ
-cueEnd (answer.Cue phrase phrase-end ordinal title title-end days end) = end
+cueEnd (answer.Cue phrase phrase-end ordinal title title-end days mark end) = end
 cueEnd (answer.Refused number) = 0
 
 -- the cue that an answer means: its phrase and its title are parts of the book. A refusal means none
 abbrev pub cuesMeant : List ℕ → CueAnswer → List Cue
-cuesMeant book (answer.Cue phrase phrase-end ordinal title title-end days end) = cueWith (part book phrase phrase-end) ordinal (part book title title-end) days ∷ []
+cuesMeant book (answer.Cue phrase phrase-end ordinal title title-end days mark end) = cueWith (part book phrase phrase-end) ordinal (part book title title-end) days mark ∷ []
 cuesMeant book (answer.Refused number) = []
 
 -- where a cue's title starts, from the cue on: after the fields before it and its header; its length; and where it ends
@@ -42,7 +42,7 @@ unfoldable pub cueAt : List ℕ → ℕ → CueAnswer
 unfolding cueRefusal cueOf formSize numberIn
 cueAt book place =
     let rest : List ℕ = drop place book in
-    let read : CueAnswer = answer.Cue (place + 3) (place + fieldSize rest) (cueOf rest .ordinal) (place + titleStart rest) (place + titleEnd rest) (cueOf rest .days) (place + cueSize rest) in
+    let read : CueAnswer = answer.Cue (place + 3) (place + fieldSize rest) (cueOf rest .ordinal) (place + titleStart rest) (place + titleEnd rest) (cueOf rest .days) (cueOf rest .mark) (place + cueSize rest) in
     cond (eqb (cueRefusal rest) 0) read (answer.Refused (cueRefusal rest))
 
 -- what is read there, its number in document 01, and the cue that it means

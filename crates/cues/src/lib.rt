@@ -1,10 +1,10 @@
-// This crate reads one cue at a place of a book (document 01, "Cue book, folding, lines"; document 02, (viii)), and says what a cue's value and its bytes are, and when it plays.
-// It depends on `cue_fields` for a field and for fields in the order of a list, on `calendar` for the days that there are, and on `matching` for its tables of refusals and its case analysis.
+// This crate reads one cue at a place of a book (document 01, "Cue book, folding, lines"; document 02, (viii) and (xiv)), and says what a cue's value and its bytes are, when it plays, and who sees it.
+// It depends on `cue_fields` for a field and for fields in the order of a list, on `calendar` for the days that there are, on `roles` for who is a guest, and on `matching` for its tables of refusals and its case analysis.
 // proofs/Values.antt has the laws that a cue written reads back, and that a cue read was so written; `cue_book` reads a whole book, and `cue_writer` writes a cue.
 use cue_fields::Due;
 use cue_fields::FieldAnswer;
 ghost use mathlib.Core.Path.{_≡_};
-ghost use Rattle.cues.specs.Cue.{daysFrom, daysHold};
+ghost use Rattle.cues.specs.Cue.{daysFrom, markFrom, daysHold, sees, isChosen};
 ghost use Rattle.cues.specs.Places.{cueNumber, CueRead};
 
 // The days on which a cue plays: always, or from a first day to a last one.
@@ -13,7 +13,20 @@ pub enum Days {
     Within { first: u32, last: u32 },
 }
 
-// What reading a cue gives: its phrase and its title as the parts of the book where they stand, its ordinal, its days, and the place after it; or the refusal's number.
+// Whether a cue says who may see it: it has no mark, and is open; it is marked as open; or it is for the house only.
+pub enum Mark {
+    Unmarked,
+    Open,
+    HouseOnly,
+}
+
+// For which role and for which day cues are chosen.
+pub struct Choice {
+    pub role: u32,
+    pub day: u32,
+}
+
+// What reading a cue gives: its phrase and its title as the parts of the book where they stand, its ordinal, its days, its mark, and the place after it; or the refusal's number.
 pub enum CueAnswer {
     Cue {
         phrase: usize,
@@ -22,6 +35,7 @@ pub enum CueAnswer {
         title: usize,
         title_end: usize,
         days: Days,
+        mark: Mark,
         end: usize,
     },
     Refused(u32),
@@ -37,6 +51,27 @@ pub fn plays(days: Days, day: u32) -> bool
     }
 }
 
+// Whether a role sees a cue with this mark: a guest does not see those for the house only.
+pub fn sees_mark(role: u32, mark: Mark) -> bool
+    ensures { λ r. ⌜ r ≡ sees role mark ⌝ }
+{
+    match mark {
+        Mark::Unmarked => true,
+        Mark::Open => true,
+        Mark::HouseOnly => role != 2,
+    }
+}
+
+// Whether a cue with this mark and these days is chosen: the role sees it, and it plays on the day.
+pub fn chosen(choice: Choice, mark: Mark, days: Days) -> bool
+    ensures { λ r. ⌜ r ≡ isChosen choice mark days ⌝ }
+{
+    if !sees_mark(choice.role, mark) {
+        return false;
+    }
+    plays(days, choice.day)
+}
+
 // The days that the body of dates means; the empty one, of a field left out, means always.
 fn days_in(body: &[u8]) -> Days
     ensures { λ r. ⌜ r ≡ daysFrom (now (body .entry)) ⌝ }
@@ -47,6 +82,19 @@ fn days_in(body: &[u8]) -> Days
     let first = cue_fields::number_at(body) as u32;
     let last = cue_fields::number_from(body, 2) as u32;
     Days::Within { first, last }
+}
+
+// The mark that the body of a house field means; the empty one, of a field left out, is none.
+fn mark_in(body: &[u8]) -> Mark
+    ensures { λ r. ⌜ r ≡ markFrom (now (body .entry)) ⌝ }
+{
+    if body.len() == 0 {
+        return Mark::Unmarked;
+    }
+    if cue_fields::mark_at(body) == 0 {
+        return Mark::Open;
+    }
+    Mark::HouseOnly
 }
 
 // Reads the cue at a place of a book: its fields in their order, the first refusal leaving at the spot.
@@ -78,11 +126,20 @@ pub fn read_cue(book: &[u8], place: usize) -> CueAnswer
         return CueAnswer::Refused(cue_fields::field_number(third));
     };
     let fourth = cue_fields::read_due(book, title_end, Due::Dates);
-    let FieldAnswer::Body { start: dates, end } = fourth else {
+    let FieldAnswer::Body {
+        start: dates,
+        end: dates_end,
+    } = fourth
+    else {
         return CueAnswer::Refused(cue_fields::field_number(fourth));
     };
+    let fifth = cue_fields::read_due(book, dates_end, Due::House);
+    let FieldAnswer::Body { start: house, end } = fifth else {
+        return CueAnswer::Refused(cue_fields::field_number(fifth));
+    };
     let ordinal = cue_fields::number_at(&book[body..ordinal_end]) as u32;
-    let days = days_in(&book[dates..end]);
+    let days = days_in(&book[dates..dates_end]);
+    let mark = mark_in(&book[house..end]);
     CueAnswer::Cue {
         phrase,
         phrase_end,
@@ -90,6 +147,7 @@ pub fn read_cue(book: &[u8], place: usize) -> CueAnswer
         title,
         title_end,
         days,
+        mark,
         end,
     }
 }
@@ -106,6 +164,7 @@ pub fn cue_number(answer: CueAnswer) -> u32
             title: _,
             title_end: _,
             days: _,
+            mark: _,
             end: _,
         } => 0,
         CueAnswer::Refused(number) => number,

@@ -9,7 +9,7 @@ use lib.Dec.{eqb}
 use borrow.Author.Tests.{eq-eqb, ne-eqb, lt-ltb, le-ltb}
 use Rattle.matching.proofs.CaseAnalysis.{by-test}
 use Rattle.cue_fields.specs.declared.Due.{Due}
-use Rattle.cue_fields.specs.declared.Due.the-variants.{Phrase, Ordinal, Title, Dates}
+use Rattle.cue_fields.specs.declared.Due.the-variants.{Phrase, Ordinal, Title, Dates, House}
 use Rattle.cue_fields.specs.declared.FieldAnswer.{FieldAnswer}
 use Rattle.cue_fields.specs.declared.FieldAnswer.the-variants.{Body, Refused}
 use Rattle.cue_fields.specs.Field.{fieldSize, fieldRefusal, fieldAt}
@@ -34,9 +34,13 @@ module _ (book : List ℕ) (place due : ℕ) where
   unfolding fieldDue
   due-dates a b c e = rw (ne-eqb due 1 a, ne-eqb due 2 b, ne-eqb due 3 c, eq-eqb due 4 e)
 
-  pub due-unknown : (due ≡ 1 → ⊥) → (due ≡ 2 → ⊥) → (due ≡ 3 → ⊥) → (due ≡ 4 → ⊥) → fieldDue book place due ≡ unknownAt book place
+  pub due-house : (due ≡ 1 → ⊥) → (due ≡ 2 → ⊥) → (due ≡ 3 → ⊥) → (due ≡ 4 → ⊥) → due ≡ 5 → fieldDue book place due ≡ fieldAt book place House
   unfolding fieldDue
-  due-unknown a b c d = rw (ne-eqb due 1 a, ne-eqb due 2 b, ne-eqb due 3 c, ne-eqb due 4 d)
+  due-house a b c d e = rw (ne-eqb due 1 a, ne-eqb due 2 b, ne-eqb due 3 c, ne-eqb due 4 d, eq-eqb due 5 e)
+
+  pub due-unknown : (due ≡ 1 → ⊥) → (due ≡ 2 → ⊥) → (due ≡ 3 → ⊥) → (due ≡ 4 → ⊥) → (due ≡ 5 → ⊥) → fieldDue book place due ≡ unknownAt book place
+  unfolding fieldDue
+  due-unknown a b c d e = rw (ne-eqb due 1 a, ne-eqb due 2 b, ne-eqb due 3 c, ne-eqb due 4 d, ne-eqb due 5 e)
 
 -- the tests for a number that is no tag
 module _ (book : List ℕ) (place : ℕ) where
@@ -70,7 +74,8 @@ due-ordered book place due =
     either-ordered (eqb due 1) _ _ (at-ordered book place Phrase)
     (either-ordered (eqb due 2) _ _ (at-ordered book place Ordinal)
     (either-ordered (eqb due 3) _ _ (at-ordered book place Title)
-    (either-ordered (eqb due 4) _ _ (at-ordered book place Dates) tt)))
+    (either-ordered (eqb due 4) _ _ (at-ordered book place Dates)
+    (either-ordered (eqb due 5) _ _ (at-ordered book place House) tt))))
 
 pub body-ordered : (book : List ℕ) (place due : ℕ) {start end : ℕ} {r : FieldAnswer} → r ≡ fieldDue book place due → r ≡ Body start end → start ≤ end
 body-ordered book place due {start} {end} answer body =

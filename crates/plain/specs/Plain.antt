@@ -4,7 +4,7 @@ use mathlib.Core.Bool.{cond}
 use mathlib.Core.List.{List}
 use lib.ListN.{length, drop}
 use lib.Dec.{eqb, ltb}
-use Rattle.cue_fields.specs.declared.Due.the-variants.{Phrase, Ordinal, Title, Dates}
+use Rattle.cue_fields.specs.declared.Due.the-variants.{Phrase, Ordinal, Title, Dates, House}
 use Rattle.cue_fields.specs.declared.FieldAnswer.{FieldAnswer}
 use Rattle.cue_fields.specs.declared.FieldAnswer.the-variants as field
 use Rattle.cue_fields.specs.Field.{fieldAt}
@@ -12,8 +12,11 @@ use Rattle.cues.specs.declared.CueAnswer.{CueAnswer}
 use Rattle.cues.specs.declared.CueAnswer.the-variants as cue
 use Rattle.cues.specs.declared.Days.{Days}
 use Rattle.cues.specs.declared.Days.the-variants.{Always, Within}
+use Rattle.cues.specs.declared.Mark.{Mark}
+use Rattle.cues.specs.declared.Mark.the-variants.{Unmarked, Open, HouseOnly}
 use Rattle.plain.specs.declared.PlainField.{PlainField}
 use Rattle.plain.specs.declared.PlainDays.{PlainDays}
+use Rattle.plain.specs.declared.PlainMark.{PlainMark}
 use Rattle.plain.specs.declared.PlainCue.{PlainCue}
 
 -- ---- a field
@@ -22,7 +25,7 @@ use Rattle.plain.specs.declared.PlainCue.{PlainCue}
 abbrev pub unknownAt : List ℕ → ℕ → FieldAnswer
 unknownAt book place = field.Refused (cond (ltb (length (drop place book)) 3) 7 8)
 
--- the answer for the field that a number names by its tag: 1 phrase, 2 ordinal, 3 title, 4 dates (document 02, (viii))
+-- the answer for the field that a number names by its tag: 1 phrase, 2 ordinal, 3 title, 4 dates (document 02, (viii)), 5 house mark (document 02, (xiv))
 unfoldable pub fieldDue : List ℕ → ℕ → ℕ → FieldAnswer
 unfolding fieldAt
 fieldDue book place due =
@@ -30,7 +33,8 @@ fieldDue book place due =
     (cond (eqb due 2) (fieldAt book place Ordinal)
     (cond (eqb due 3) (fieldAt book place Title)
     (cond (eqb due 4) (fieldAt book place Dates)
-    (unknownAt book place))))
+    (cond (eqb due 5) (fieldAt book place House)
+    (unknownAt book place)))))
 
 -- a field: its body's start and length, and the place after it
 abbrev pub fieldPassed : FieldAnswer → PlainField
@@ -44,15 +48,23 @@ abbrev pub daysPassed : Days → PlainDays
 daysPassed Always = record { dated = 0; first = 0; last = 0 }
 daysPassed (Within first last) = record { dated = 1; first = first; last = last }
 
--- a cue: its ordinal, its days, its phrase's and its title's start and length, and the place after it
+-- its mark: 1 where it has one, and 1 where it is for the house only
+abbrev pub markPassed : Mark → PlainMark
+markPassed Unmarked = record { marked = 0; house = 0 }
+markPassed Open = record { marked = 1; house = 0 }
+markPassed HouseOnly = record { marked = 1; house = 1 }
+
+-- a cue: its ordinal, its days, its mark, its phrase's and its title's start and length, and the place after it
 abbrev pub cuePassed : CueAnswer → PlainCue
-cuePassed (cue.Cue phrase phrase-end ordinal title title-end days end) =
+cuePassed (cue.Cue phrase phrase-end ordinal title title-end days mark end) =
     record {
       refusal = 0;
       ordinal = ordinal;
       dated = daysPassed days .dated;
       first = daysPassed days .first;
       last = daysPassed days .last;
+      marked = markPassed mark .marked;
+      house = markPassed mark .house;
       «phrase_start» = phrase;
       «phrase_len» = phrase-end - phrase;
       «title_start» = title;
@@ -60,7 +72,7 @@ cuePassed (cue.Cue phrase phrase-end ordinal title title-end days end) =
       end = end;
     }
 cuePassed (cue.Refused number) =
-    record { refusal = number; ordinal = 0; dated = 0; first = 0; last = 0; «phrase_start» = 0; «phrase_len» = 0; «title_start» = 0; «title_len» = 0; end = 0 }
+    record { refusal = number; ordinal = 0; dated = 0; first = 0; last = 0; marked = 0; house = 0; «phrase_start» = 0; «phrase_len» = 0; «title_start» = 0; «title_len» = 0; end = 0 }
 
 -- the days of a cue to be written, from plain numbers: where the first number is 0 it plays always, and the two others play no part
 unfoldable pub daysGiven : ℕ → ℕ → ℕ → Days

@@ -5,12 +5,13 @@ use cue_fields::Due;
 use cue_fields::FieldAnswer;
 use cues::CueAnswer;
 use cues::Days;
+use cues::Mark;
 use matching::Answer;
 ghost use mathlib.Core.Path.{_≡_};
 ghost use Rattle.cues.specs.Cue.{cueWith};
 ghost use Rattle.cues.specs.Places.{cueAt};
-ghost use Rattle.cue_writer.specs.Writing.{Written};
-ghost use Rattle.plain.specs.Plain.{fieldDue, fieldPassed, daysPassed, cuePassed, daysGiven};
+ghost use Rattle.cue_writer.specs.Writing.{markGiven, Written};
+ghost use Rattle.plain.specs.Plain.{fieldDue, fieldPassed, daysPassed, markPassed, cuePassed, daysGiven};
 
 // A field read: the refusal, or 0 with its body's start and length and the place after it. A refused one is 0 in all else.
 #[repr(C)]
@@ -21,8 +22,8 @@ pub struct PlainField {
     pub end: usize,
 }
 
-// A cue read: the refusal, or 0 with its ordinal, its days, its phrase and its title as parts of the book, and the place after it. `dated` is 1 with the two days where the cue has dates; where it plays always,
-// these three are 0. A refused one is 0 in all but its refusal.
+// A cue read: the refusal, or 0 with its ordinal, its days, its mark, its phrase and its title as parts of the book, and the place after it. `dated` is 1 with the two days where the cue has dates; where it plays
+// always, these three are 0. `marked` is 1 where the cue says whether it is open, and `house` is 1 where it is for the house only. A refused one is 0 in all but its refusal.
 #[repr(C)]
 pub struct PlainCue {
     pub refusal: u32,
@@ -30,6 +31,8 @@ pub struct PlainCue {
     pub dated: u32,
     pub first: u32,
     pub last: u32,
+    pub marked: u32,
+    pub house: u32,
     pub phrase_start: usize,
     pub phrase_len: usize,
     pub title_start: usize,
@@ -52,6 +55,9 @@ fn read_due(book: &[u8], place: usize, due: u32) -> FieldAnswer
     }
     if due == 4 {
         return cue_fields::read_field(book, place, Due::Dates);
+    }
+    if due == 5 {
+        return cue_fields::read_field(book, place, Due::House);
     }
     if book.len() < place {
         return FieldAnswer::Refused(7);
@@ -108,6 +114,32 @@ fn passed_days(days: Days) -> PlainDays
     }
 }
 
+// A cue's mark as it passes: whether it has one, and whether it is for the house only.
+struct PlainMark {
+    marked: u32,
+    house: u32,
+}
+
+// A cue's mark, as these numbers.
+fn passed_mark(mark: Mark) -> PlainMark
+    ensures { λ r. ⌜ r ≡ markPassed mark ⌝ }
+{
+    match mark {
+        Mark::Unmarked => PlainMark {
+            marked: 0,
+            house: 0,
+        },
+        Mark::Open => PlainMark {
+            marked: 1,
+            house: 0,
+        },
+        Mark::HouseOnly => PlainMark {
+            marked: 1,
+            house: 1,
+        },
+    }
+}
+
 // A cue read at a place of a book.
 pub fn read_cue(book: &[u8], place: usize) -> PlainCue
     ensures { λ r. ⌜ r ≡ cuePassed (cueAt (now (book .entry)) place) ⌝ }
@@ -121,15 +153,19 @@ pub fn read_cue(book: &[u8], place: usize) -> PlainCue
             title,
             title_end,
             days,
+            mark,
             end,
         } => {
             let passed = passed_days(days);
+            let seen = passed_mark(mark);
             PlainCue {
                 refusal: 0,
                 ordinal,
                 dated: passed.dated,
                 first: passed.first,
                 last: passed.last,
+                marked: seen.marked,
+                house: seen.house,
                 phrase_start: phrase,
                 phrase_len: phrase_end - phrase,
                 title_start: title,
@@ -143,6 +179,8 @@ pub fn read_cue(book: &[u8], place: usize) -> PlainCue
             dated: 0,
             first: 0,
             last: 0,
+            marked: 0,
+            house: 0,
             phrase_start: 0,
             phrase_len: 0,
             title_start: 0,
@@ -162,7 +200,7 @@ fn given_days(dated: u32, first: u32, last: u32) -> Days
     Days::Within { first, last }
 }
 
-// A cue written at the buffer's start, its days given as plain numbers: 0 and its length, or the refusal and 0.
+// A cue written at the buffer's start, its days given as plain numbers, and open with `house` 0 or for the house only with 1: 0 and its length, or the refusal and 0.
 pub fn write_cue(
     buffer: &mut [u8],
     phrase: &[u8],
@@ -171,9 +209,10 @@ pub fn write_cue(
     dated: u32,
     first: u32,
     last: u32,
+    house: u32,
 ) -> Answer
-    ensures { λ r. ⌜ Written (cueWith (now (phrase .entry)) ordinal (now (title .entry)) (daysGiven dated first last)) (now (buffer .entry)) r (now (buffer .exit)) ⌝ }
+    ensures { λ r. ⌜ Written (cueWith (now (phrase .entry)) ordinal (now (title .entry)) (daysGiven dated first last) (markGiven house)) house (now (buffer .entry)) r (now (buffer .exit)) ⌝ }
 {
     let days = given_days(dated, first, last);
-    cue_writer::write_cue(buffer, phrase, ordinal, title, days)
+    cue_writer::write_cue(buffer, phrase, ordinal, title, days, house)
 }

@@ -1,4 +1,4 @@
--- `cue_book::walk` meets its contract. The loop's invariant: the cues read so far, and what the rest reads as, are the whole book (`ReadSoFar`), those of them that play are counted (`Counted`), and the wanted cue's title is noted once it
+-- `cue_book::walk` meets its contract. The loop's invariant: the cues read so far, and what the rest reads as, are the whole book (`ReadSoFar`), those of them that are chosen are counted (`Counted`), and the wanted cue's title is noted once it
 -- has been passed (`Noted`). Assumes nothing.
 use borrow.Author.Needs.{needs}
 use mathlib.Core.Path.{_≡_, sym, ap, ap₂, subst, _∙_}
@@ -7,28 +7,27 @@ use Prim.Native.Nat.{ℕ, _-_, _<_}
 use native.Mathlib.Omega.{arith}
 use mathlib.Core.List.{List}
 use lib.ListN.{length}
-use Rattle.matching.proofs.Those.{those-nothing}
-use Rattle.cues.specs.Cue.{playsOn}
+use Rattle.cues.specs.declared.Choice.{Choice}
 use Rattle.cues.proofs.Cues.{CueAt, cue-at, cue-refused-some, title-ends}
-use Rattle.cue_book.specs.Reading.{Reading, refused, readBook, refusalOf, numberOf, playing, cuesIn}
+use Rattle.cue_book.specs.Reading.{Reading, refused, readBook, refusalOf, numberOf, playingFor, cuesIn}
 use Rattle.cue_book.specs.Walking.{Walked}
-use Rattle.cue_book.proofs.Books.{so-far-over, so-far-refused, so-far-end, Counted, counted-first, counted-few, counted-plays, counted-not, Noted, noted-first, noted-other, noted-this, part-refused, part-cues}
+use Rattle.cue_book.proofs.Books.{for-nothing, so-far-over, so-far-refused, so-far-end, Counted, counted-first, counted-few, counted-chosen, counted-not, Noted, noted-first, noted-other, noted-this, part-refused, part-cues}
 use Rattle.cue_book.proofs.walk.Statement.{statement}
 use Rattle.cue_book.proofs.walk.Tie as tie
 
 abbrev Inv-loop : tie.InvT-loop
-Inv-loop book day wanted start₀ len₀ playing₀ index₀ place₀ start len playing index place = Counted book day index place playing × Noted book wanted index (record { start = start; len = len })
+Inv-loop book choice wanted start₀ len₀ chosen₀ index₀ place₀ start len chosen index place = Counted book choice index place chosen × Noted book wanted index (record { start = start; len = len })
 
 abbrev μ-loop : tie.MeasureT-loop
-μ-loop book day wanted start₀ len₀ playing₀ index₀ place₀ start len playing index place = length book - place
+μ-loop book choice wanted start₀ len₀ chosen₀ index₀ place₀ start len chosen index place = length book - place
 
 -- a refused book shows no title
-none-shown : {book : List ℕ} {day wanted number index : ℕ} → readBook book ≡ refused number index → Walked book day wanted (record { refusal = number; number = index; playing = 0; start = 0; len = 0 })
-none-shown {book} {day} {wanted} e =
+none-shown : {book : List ℕ} {who : Choice} {wanted number index : ℕ} → readBook book ≡ refused number index → Walked book who wanted (record { refusal = number; number = index; chosen = 0; start = 0; len = 0 })
+none-shown {book} {who} {wanted} e =
     record {
       refusal = sym (ap refusalOf e);
       number = sym (ap numberOf e);
-      playing = ap length (sym (those-nothing (playsOn day))) ∙ ap (λ (r : Reading). length (playing day (cuesIn r))) (sym e);
+      chosen = ap length (sym (for-nothing who)) ∙ ap (λ (r : Reading). length (playingFor who (cuesIn r))) (sym e);
       part = sym (part-refused book wanted e);
     }
 
@@ -42,11 +41,11 @@ turn k = k .before .before .before .before .before .before
 
 -- the cue was read
 this : (k : tie.After-known-told Inv-loop μ-loop) → let g = k .before .cue .given .0 in let l = turn k in
-    CueAt (l .before .before .args .book .now) (l .loop .place) (g .0) (g .1 .0) (g .1 .1 .0) (g .1 .1 .1 .0) (g .1 .1 .1 .1 .0) (g .1 .1 .1 .1 .1 .0) (g .1 .1 .1 .1 .1 .1 .0)
+    CueAt (l .before .before .args .book .now) (l .loop .place) (g .0) (g .1 .0) (g .1 .1 .0) (g .1 .1 .1 .0) (g .1 .1 .1 .1 .0) (g .1 .1 .1 .1 .1 .0) (g .1 .1 .1 .1 .1 .1 .0) (g .1 .1 .1 .1 .1 .1 .1 .0)
 this k = cue-at (k .before .before .before .read-cue .ensures) (k .before .cue .given .1)
 
 loop-holds : tie.Need-loop-holds Inv-loop μ-loop
-loop-holds c = (counted-first (c .before .args .book .now) (c .before .args .day), noted-first (c .before .args .book .now) (c .before .args .wanted))
+loop-holds c = (counted-first (c .before .args .book .now) (c .before .args .choice), noted-first (c .before .args .book .now) (c .before .args .wanted))
 
 refused-at-requires : tie.Need-refused-at-requires Inv-loop μ-loop
 refused-at-requires c κs = search needs
@@ -83,11 +82,11 @@ returns-2 c =
     rw (c .refused-at2 .ensures)
     (none-shown (so-far-refused (l .loop .inv .0 .so-far) (t .before .loop-test .taken) (below t) (sym (read .number) ∙ sym (n .cue-number .ensures)) (λ z. some (sym (n .cue-number .ensures) ∙ z))))
 
-plays-requires : tie.Need-plays-requires Inv-loop μ-loop
-plays-requires c κs = search needs
+chosen-requires : tie.Need-chosen-requires Inv-loop μ-loop
+chosen-requires c κs = search needs
 
-add-playing : tie.Need-add-playing Inv-loop μ-loop
-add-playing c =
+add-chosen : tie.Need-add-chosen Inv-loop μ-loop
+add-chosen c =
     let l = turn (c .before .before) in
     omega (arith, counted-few (l .loop .inv .0), l .loop .inv .0 .so-far .left)
 
@@ -109,8 +108,8 @@ loop-again c =
     let a = l .loop .inv .0 in
     let t = this k in (
       ⊎-elim
-          (λ w. subst (Counted _ _ _ _) (sym (w .1)) (counted-plays a (e .before .loop-test .taken) (below e) t (sym (p .plays .ensures) ∙ w .0 .taken)))
-          (λ w. subst (Counted _ _ _ _) (sym (w .1)) (counted-not a (e .before .loop-test .taken) (below e) t (sym (p .plays .ensures) ∙ w .0 .left)))
+          (λ w. subst (Counted _ _ _ _) (sym (w .1)) (counted-chosen a (e .before .loop-test .taken) (below e) t (sym (p .chosen .ensures) ∙ w .0 .taken)))
+          (λ w. subst (Counted _ _ _ _) (sym (w .1)) (counted-not a (e .before .loop-test .taken) (below e) t (sym (p .chosen .ensures) ∙ w .0 .left)))
           (c .before .if2 .came),
       ⊎-elim
           (λ w. record { is = ap₂ (λ (s n : ℕ). record { start = s; len = n }) (w .1) (w .2) ∙ noted-this (a .so-far) t (w .0 .taken) .is })
@@ -126,7 +125,7 @@ returns-3 c =
     record {
       refusal = sym (ap refusalOf e);
       number = sym (ap numberOf e ∙ a .counted);
-      playing = l .loop .inv .0 .plays ∙ ap (λ (r : Reading). length (playing (l .before .before .args .day) (cuesIn r))) (sym e);
+      chosen = l .loop .inv .0 .are ∙ ap (λ (r : Reading). length (playingFor (l .before .before .args .choice) (cuesIn r))) (sym e);
       part = l .loop .inv .1 .is ∙ sym (part-cues _ _ e ∙ rw (a .counted));
     }
 
@@ -145,8 +144,8 @@ walk-spec =
     cue-number-requires
     refused-at-requires-2
     returns-2
-    plays-requires
-    add-playing
+    chosen-requires
+    add-chosen
     sub-len
     add-index
     loop-less

@@ -9,7 +9,7 @@ use lib.Seq.{getD-drop}
 use lib.Dec.{eqb}
 use borrow.Author.Tests.{not-true, not-false}
 use Rattle.cue_fields.specs.declared.Due.{Due}
-use Rattle.cue_fields.specs.declared.Due.the-variants.{Phrase, Ordinal, Title, Dates}
+use Rattle.cue_fields.specs.declared.Due.the-variants.{Phrase, Ordinal, Title, Dates, House}
 use Rattle.cue_fields.specs.Field.{tagOf}
 use Rattle.cue_fields.specs.Form.{optional}
 use Rattle.cue_fields.proofs.Form.{stands-not}
@@ -22,6 +22,7 @@ tag-some Phrase = omega arith
 tag-some Ordinal = omega arith
 tag-some Title = omega arith
 tag-some Dates = omega arith
+tag-some House = omega arith
 
 -- it may be left out
 may : (e : tie.Else1) → optional (e .before .before .before .args .due) ≡ true

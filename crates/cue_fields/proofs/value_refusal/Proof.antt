@@ -23,6 +23,12 @@ enum-told-4 c = search needs
 dates-refusal-requires : tie.Need-dates-refusal-requires
 dates-refusal-requires c κs = search needs
 
+enum-told-5 : tie.Need-enum-told-5
+enum-told-5 c = search needs
+
+house-refusal-requires : tie.Need-house-refusal-requires
+house-refusal-requires c κs = search needs
+
 returns : tie.Need-returns
 unfolding firstMet
 returns c = rw (c .enum-told .given .1)
@@ -37,5 +43,8 @@ returns-3 c = rw (c .enum-told3 .given .1)
 returns-4 : tie.Need-returns-4
 returns-4 c = c .dates-refusal .ensures ∙ rw (c .before .enum-told4 .given .1)
 
+returns-5 : tie.Need-returns-5
+returns-5 c = c .house-refusal .ensures ∙ rw (c .before .enum-told5 .given .1)
+
 pub value-refusal-spec : {M : Type 1} → statement M
-value-refusal-spec = tie.close (tie.spec enum-told enum-told-2 ordinal-refusal-requires enum-told-3 enum-told-4 dates-refusal-requires returns returns-2 returns-3 returns-4)
+value-refusal-spec = tie.close (tie.spec enum-told enum-told-2 ordinal-refusal-requires enum-told-3 enum-told-4 dates-refusal-requires enum-told-5 house-refusal-requires returns returns-2 returns-3 returns-4 returns-5)

@@ -9,8 +9,8 @@ use lib.Dec.{eqb, ltb}
 use borrow.Author.Tests.{eq-eqb, ne-eqb, lt-ltb, le-ltb}
 use Rattle.matching.specs.Refusals.{firstMet}
 use Rattle.cues.specs.Cue.{Cue, cueWith, cueBytes, datesRefusal}
-use Rattle.cue_writer.specs.Writing.{writeRefusal}
-use Rattle.cue_writer.proofs.Writing.{cue-length, dates-most, days-first}
+use Rattle.cue_writer.specs.Writing.{markGiven, writeRefusal}
+use Rattle.cue_writer.proofs.Writing.{cue-length, dates-most, mark-most, days-first}
 use Rattle.cue_writer.proofs.write_refusal.Statement.{statement}
 use Rattle.cue_writer.proofs.write_refusal.Tie as tie
 
@@ -18,13 +18,13 @@ use Rattle.cue_writer.proofs.write_refusal.Tie as tie
 abbrev start : tie.After-dates-refused → tie.Start
 start d = d .before .before .before
 
-abbrev tested : tie.Else6 → tie.After-dates-refused
-tested e = e .before .before .before .before .before .before
+abbrev tested : tie.Else7 → tie.After-dates-refused
+tested e = e .before .before .before .before .before .before .before
 
 abbrev cue : tie.After-dates-refused → Cue
-cue d = let a = start d .args in cueWith (a .phrase .now) (a .ordinal) (a .title .now) (a .days)
+cue d = let a = start d .args in cueWith (a .phrase .now) (a .ordinal) (a .title .now) (a .days) (markGiven (a .house))
 
--- the rows that are not met, each where its test was passed: days that are not refused, a phrase of 1 to 1,024, an ordinal of 1 to 65,535, a title of at most 200
+-- the rows that are not met, each where its test was passed: days that are not refused, a phrase of 1 to 1,024, an ordinal of 1 to 65,535, a title of at most 200, open or house only
 dated : (e : tie.Else1) → eqb (datesRefusal (cue (e .before) .days)) 0 ≡ true
 dated e = eq-eqb (datesRefusal (cue (e .before) .days)) 0 (sym (e .before .dates-refused .ensures) ∙ e .if1 .left)
 
@@ -40,23 +40,27 @@ named e = ne-eqb (cue (e .before .before .before .before) .ordinal) 0 (λ z. ome
 small : (e : tie.Else5) → ltb 65535 (cue (e .before .before .before .before .before) .ordinal) ≡ false
 small e = le-ltb 65535 (cue (e .before .before .before .before .before) .ordinal) (omega arith)
 
-shown : (e : tie.Else6) → ltb 200 (length (cue (tested e) .title)) ≡ false
-shown e = le-ltb 200 (length (cue (tested e) .title)) (omega arith)
+shown : (e : tie.Else6) → ltb 200 (length (cue (e .before .before .before .before .before .before) .title)) ≡ false
+shown e = le-ltb 200 (length (cue (e .before .before .before .before .before .before) .title)) (omega arith)
 
--- where the first six are not met, the last row is left
-last-left : (e : tie.Else6) → let k = cue (tested e) in let capacity = start (tested e) .args .capacity in writeRefusal k capacity ≡ firstMet ((ltb capacity (length (cueBytes k)), 13) ∷ [])
+marked : (e : tie.Else7) → ltb 1 (start (tested e) .args .house) ≡ false
+marked e = le-ltb 1 (start (tested e) .args .house) (omega arith)
+
+-- where the first seven are not met, the last row is left
+last-left : (e : tie.Else7) → let k = cue (tested e) in let capacity = start (tested e) .args .capacity in writeRefusal k (start (tested e) .args .house) capacity ≡ firstMet ((ltb capacity (length (cueBytes k)), 13) ∷ [])
 unfolding writeRefusal firstMet
 last-left e =
-    let e₅ = e .before in
+    let e₆ = e .before in
+    let e₅ = e₆ .before in
     let e₄ = e₅ .before in
     let e₃ = e₄ .before in
-    rw (dated (e₃ .before .before), some (e₃ .before), short e₃, named e₄, small e₅, shown e)
+    rw (dated (e₃ .before .before), some (e₃ .before), short e₃, named e₄, small e₅, shown e₆, marked e)
 
 dates-refused-requires : tie.Need-dates-refused-requires
 dates-refused-requires c κs = search needs
 
 returns : tie.Need-returns
-returns c = let d = c .before in sym (days-first (cue d) (start d .args .capacity) (λ z. c .if1 .taken (d .dates-refused .ensures ∙ z)))
+returns c = let d = c .before in sym (days-first (cue d) (start d .args .house) (start d .args .capacity) (λ z. c .if1 .taken (d .dates-refused .ensures ∙ z)))
 
 returns-2 : tie.Need-returns-2
 unfolding writeRefusal firstMet
@@ -90,31 +94,51 @@ returns-6 c =
     rw
     (dated (e₃ .before .before), some (e₃ .before), short e₃, named (e .before), small e, lt-ltb 200 (length (cue (e₃ .before .before .before) .title)) (omega arith))
 
-add-if7 : tie.Need-add-if7
-add-if7 c = search needs
+returns-7 : tie.Need-returns-7
+unfolding writeRefusal firstMet
+returns-7 c =
+    let e = c .before in
+    let e₅ = e .before in
+    let e₃ = e₅ .before .before in
+    rw
+    (dated (e₃ .before .before), some (e₃ .before), short e₃, named (e₅ .before), small e₅, shown e, lt-ltb 1 (start (e₃ .before .before .before) .args .house) (omega arith))
 
-add-if7-2 : tie.Need-add-if7-2
-add-if7-2 c = search needs
+add-if8 : tie.Need-add-if8
+add-if8 c = search needs
+
+add-if8-2 : tie.Need-add-if8-2
+add-if8-2 c = search needs
 
 dates-len-requires : tie.Need-dates-len-requires
 dates-len-requires c κs = search needs
 
-add-if7-3 : tie.Need-add-if7-3
-add-if7-3 c = omega (arith, c .dates-len .ensures, dates-most (cue (tested (c .before)) .days))
+add-if8-3 : tie.Need-add-if8-3
+add-if8-3 c = omega (arith, c .dates-len .ensures, dates-most (cue (tested (c .before)) .days))
 
-returns-7 : tie.Need-returns-7
-unfolding firstMet
-returns-7 c =
-    let l = c .before in
-    let k = cue (tested (l .before)) in
-    sym (last-left (l .before) ∙ rw (lt-ltb (start (tested (l .before)) .args .capacity) (length (cueBytes k)) (omega (arith, cue-length k, l .dates-len .ensures))))
+mark-len-requires : tie.Need-mark-len-requires
+mark-len-requires c κs = search needs
+
+add-if8-4 : tie.Need-add-if8-4
+add-if8-4 c =
+    let d = c .before in
+    let k = cue (tested (d .before)) in
+    omega (arith, d .dates-len .ensures, dates-most (k .days), c .mark-len .ensures, mark-most (k .mark))
 
 returns-8 : tie.Need-returns-8
 unfolding firstMet
 returns-8 c =
     let l = c .before in
-    let k = cue (tested (l .before)) in
-    sym (last-left (l .before) ∙ rw (le-ltb (start (tested (l .before)) .args .capacity) (length (cueBytes k)) (omega (arith, cue-length k, l .dates-len .ensures))))
+    let d = l .before in
+    let k = cue (tested (d .before)) in
+    sym (last-left (d .before) ∙ rw (lt-ltb (start (tested (d .before)) .args .capacity) (length (cueBytes k)) (omega (arith, cue-length k, d .dates-len .ensures, l .mark-len .ensures))))
+
+returns-9 : tie.Need-returns-9
+unfolding firstMet
+returns-9 c =
+    let l = c .before in
+    let d = l .before in
+    let k = cue (tested (d .before)) in
+    sym (last-left (d .before) ∙ rw (le-ltb (start (tested (d .before)) .args .capacity) (length (cueBytes k)) (omega (arith, cue-length k, d .dates-len .ensures, l .mark-len .ensures))))
 
 pub write-refusal-spec : {M : Type 1} → statement M
 write-refusal-spec =
@@ -127,9 +151,12 @@ write-refusal-spec =
     returns-4
     returns-5
     returns-6
-    add-if7
-    add-if7-2
-    dates-len-requires
-    add-if7-3
     returns-7
-    returns-8)
+    add-if8
+    add-if8-2
+    dates-len-requires
+    add-if8-3
+    mark-len-requires
+    add-if8-4
+    returns-8
+    returns-9)

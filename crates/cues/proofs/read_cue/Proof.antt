@@ -7,7 +7,7 @@ use mathlib.Core.List.{List, [], _∷_}
 use lib.ListN.{length, drop}
 use denote.Enum.Declared as declared
 use Rattle.cue_fields.specs.declared.Due.{Due}
-use Rattle.cue_fields.specs.declared.Due.the-variants.{Phrase, Ordinal, Title, Dates}
+use Rattle.cue_fields.specs.declared.Due.the-variants.{Phrase, Ordinal, Title, Dates, House}
 use Rattle.cue_fields.specs.declared.FieldAnswer.{FieldAnswer}
 use Rattle.cue_fields.proofs.FieldAnswer as answers
 use Rattle.cue_fields.specs.Field.{fieldNumber}
@@ -21,7 +21,7 @@ use Rattle.cues.proofs.Cues.{cue-refused, cue-read}
 use Rattle.cues.proofs.read_cue.Statement.{statement}
 use Rattle.cues.proofs.read_cue.Tie as tie
 
--- the places of this proof: where the call came in, and where the phrase, the ordinal and the title were read
+-- the places of this proof: where the call came in, and where the phrase, the ordinal, the title and the dates were read
 abbrev start : tie.After-known-told → tie.Start
 start k = k .before .before .before .before .before
 
@@ -33,6 +33,9 @@ ordinal-read k = k .before .before .before .before
 
 abbrev title-read : tie.After-known-told4 → tie.After-known-told3
 title-read k = k .before .before .before .before
+
+abbrev dates-read : tie.After-known-told5 → tie.After-known-told4
+dates-read k = k .before .before .before .before
 
 -- the fields stand there
 first-at : (k : tie.After-known-told) → let a = start k .args in DueAt (a .book .now) (a .place) Phrase (k .before .first .given .0 .0) (k .before .first .given .0 .1 .0)
@@ -50,28 +53,40 @@ fourth-at : (k : tie.After-known-told4) → let t = title-read k in
     DueAt (start (phrase-read (ordinal-read t)) .args .book .now) (t .before .third .given .0 .1 .0) Dates (k .before .fourth .given .0 .0) (k .before .fourth .given .0 .1 .0)
 fourth-at k = due-at (k .before .before .before .read-due .ensures) (k .before .fourth .given .1)
 
--- ordinal and dates lie in the book
-ordinal-inside : (k : tie.After-known-told4) → let o = ordinal-read (title-read k) in
+fifth-at : (k : tie.After-known-told5) → let d = dates-read k in
+    DueAt (start (phrase-read (ordinal-read (title-read d))) .args .book .now) (d .before .fourth .given .0 .1 .0) House (k .before .fifth .given .0 .0) (k .before .fifth .given .0 .1 .0)
+fifth-at k = due-at (k .before .before .before .read-due2 .ensures) (k .before .fifth .given .1)
+
+-- ordinal, dates and mark lie in the book
+ordinal-inside : (k : tie.After-known-told5) → let o = ordinal-read (title-read (dates-read k)) in
     (o .before .second .given .0 .0 ≤ o .before .second .given .0 .1 .0) × (o .before .second .given .0 .1 .0 ≤ length (start (phrase-read o) .args .book .now))
-ordinal-inside k = let o = second-at (ordinal-read (title-read k)) in (o .ordered, o .inside refl)
+ordinal-inside k = let o = second-at (ordinal-read (title-read (dates-read k))) in (o .ordered, o .inside refl)
 
 dates-inside : (k : tie.After-known-told4) → let o = ordinal-read (title-read k) in
     (k .before .fourth .given .0 .0 ≤ k .before .fourth .given .0 .1 .0) × (k .before .fourth .given .0 .1 .0 ≤ length (start (phrase-read o) .args .book .now))
 dates-inside k = let d = fourth-at k in (d .ordered, d .no-further (third-at (title-read k) .inside refl))
 
+mark-inside : (k : tie.After-known-told5) → let o = ordinal-read (title-read (dates-read k)) in
+    (k .before .fifth .given .0 .0 ≤ k .before .fifth .given .0 .1 .0) × (k .before .fifth .given .0 .1 .0 ≤ length (start (phrase-read o) .args .book .now))
+mark-inside k = let h = fifth-at k in (h .ordered, h .no-further (dates-inside (dates-read k) .1))
+
 -- the cue's refusal is that of the fields after those read
 after-first : (k : tie.After-known-told) → let a = start k .args in
-    cueRefusal (drop (a .place) (a .book .now)) ≡ formRefusal (Ordinal ∷ Title ∷ Dates ∷ []) (drop (k .before .first .given .0 .1 .0) (a .book .now))
+    cueRefusal (drop (a .place) (a .book .now)) ≡ formRefusal (Ordinal ∷ Title ∷ Dates ∷ House ∷ []) (drop (k .before .first .given .0 .1 .0) (a .book .now))
 unfolding cueRefusal
-after-first k = step-refusal (first-at k) (Ordinal ∷ Title ∷ Dates ∷ [])
+after-first k = step-refusal (first-at k) (Ordinal ∷ Title ∷ Dates ∷ House ∷ [])
 
 after-second : (k : tie.After-known-told2) → let a = start (phrase-read k) .args in
-    cueRefusal (drop (a .place) (a .book .now)) ≡ formRefusal (Title ∷ Dates ∷ []) (drop (k .before .second .given .0 .1 .0) (a .book .now))
-after-second k = after-first (phrase-read k) ∙ step-refusal (second-at k) (Title ∷ Dates ∷ [])
+    cueRefusal (drop (a .place) (a .book .now)) ≡ formRefusal (Title ∷ Dates ∷ House ∷ []) (drop (k .before .second .given .0 .1 .0) (a .book .now))
+after-second k = after-first (phrase-read k) ∙ step-refusal (second-at k) (Title ∷ Dates ∷ House ∷ [])
 
 after-third : (k : tie.After-known-told3) → let a = start (phrase-read (ordinal-read k)) .args in
-    cueRefusal (drop (a .place) (a .book .now)) ≡ formRefusal (Dates ∷ []) (drop (k .before .third .given .0 .1 .0) (a .book .now))
-after-third k = after-second (ordinal-read k) ∙ step-refusal (third-at k) (Dates ∷ [])
+    cueRefusal (drop (a .place) (a .book .now)) ≡ formRefusal (Dates ∷ House ∷ []) (drop (k .before .third .given .0 .1 .0) (a .book .now))
+after-third k = after-second (ordinal-read k) ∙ step-refusal (third-at k) (Dates ∷ House ∷ [])
+
+after-fourth : (k : tie.After-known-told4) → let a = start (phrase-read (ordinal-read (title-read k))) .args in
+    cueRefusal (drop (a .place) (a .book .now)) ≡ formRefusal (House ∷ []) (drop (k .before .fourth .given .0 .1 .0) (a .book .now))
+after-fourth k = after-third (title-read k) ∙ step-refusal (fourth-at k) (House ∷ [])
 
 -- a field that was refused, after those read
 refused : {book : List ℕ} {at place : ℕ} {due : Due} {r : FieldAnswer} {number : ℕ} (dues : List Due) → cueRefusal (drop place book) ≡ formRefusal (due ∷ dues) (drop at book) → DueRead book at due r
@@ -94,7 +109,7 @@ field-number-requires c κs = search needs
 
 returns : tie.Need-returns
 unfolding cueRefusal
-returns c = refused (Ordinal ∷ Title ∷ Dates ∷ []) refl (due-stands refl (c .before .before .before .read-phrase .ensures)) (c .before .before .match .keys2) (c .field-number .ensures)
+returns c = refused (Ordinal ∷ Title ∷ Dates ∷ House ∷ []) refl (due-stands refl (c .before .before .before .read-phrase .ensures)) (c .before .before .match .keys2) (c .field-number .ensures)
 
 read-ordinal-requires : tie.Need-read-ordinal-requires
 read-ordinal-requires c κs = search needs
@@ -109,7 +124,7 @@ field-number-requires-2 : tie.Need-field-number-requires-2
 field-number-requires-2 c κs = search needs
 
 returns-2 : tie.Need-returns-2
-returns-2 c = let r = c .before .before .before in refused (Title ∷ Dates ∷ []) (after-first (r .before)) (due-stands refl (r .read-ordinal .ensures)) (c .before .before .match2 .keys2) (c .field-number2 .ensures)
+returns-2 c = let r = c .before .before .before in refused (Title ∷ Dates ∷ House ∷ []) (after-first (r .before)) (due-stands refl (r .read-ordinal .ensures)) (c .before .before .match2 .keys2) (c .field-number2 .ensures)
 
 read-title-requires : tie.Need-read-title-requires
 read-title-requires c κs = search needs
@@ -124,7 +139,7 @@ field-number-requires-3 : tie.Need-field-number-requires-3
 field-number-requires-3 c κs = search needs
 
 returns-3 : tie.Need-returns-3
-returns-3 c = let r = c .before .before .before in refused (Dates ∷ []) (after-second (r .before)) (due-stands refl (r .read-title .ensures)) (c .before .before .match3 .keys2) (c .field-number3 .ensures)
+returns-3 c = let r = c .before .before .before in refused (Dates ∷ House ∷ []) (after-second (r .before)) (due-stands refl (r .read-title .ensures)) (c .before .before .match3 .keys2) (c .field-number3 .ensures)
 
 read-due-requires : tie.Need-read-due-requires
 read-due-requires c κs = search needs
@@ -139,7 +154,22 @@ field-number-requires-4 : tie.Need-field-number-requires-4
 field-number-requires-4 c κs = search needs
 
 returns-4 : tie.Need-returns-4
-returns-4 c = let r = c .before .before .before in refused [] (after-third (r .before)) (r .read-due .ensures) (c .before .before .match4 .keys2) (c .field-number4 .ensures)
+returns-4 c = let r = c .before .before .before in refused (House ∷ []) (after-third (r .before)) (r .read-due .ensures) (c .before .before .match4 .keys2) (c .field-number4 .ensures)
+
+read-due-requires-2 : tie.Need-read-due-requires-2
+read-due-requires-2 c κs = search needs
+
+enum-known-fifth : tie.Need-enum-known-fifth
+enum-known-fifth c = search needs
+
+enum-told-5 : tie.Need-enum-told-5
+enum-told-5 c = search needs
+
+field-number-requires-5 : tie.Need-field-number-requires-5
+field-number-requires-5 c κs = search needs
+
+returns-5 : tie.Need-returns-5
+returns-5 c = let r = c .before .before .before in refused [] (after-fourth (r .before)) (r .read-due2 .ensures) (c .before .before .match5 .keys2) (c .field-number5 .ensures)
 
 sub-number-at : tie.Need-sub-number-at
 sub-number-at c = omega (arith, ordinal-inside c .0)
@@ -157,24 +187,38 @@ cast-ordinal : tie.Need-cast-ordinal
 cast-ordinal c = search needs
 
 sub-days-in : tie.Need-sub-days-in
-sub-days-in c = omega (arith, dates-inside (c .before .before) .0)
+sub-days-in c = omega (arith, dates-inside (dates-read (c .before .before)) .0)
 
 part-days-in-start : tie.Need-part-days-in-start
-part-days-in-start c = omega (arith, dates-inside (c .before .before) .0)
+part-days-in-start c = omega (arith, dates-inside (dates-read (c .before .before)) .0)
 
 part-days-in-end : tie.Need-part-days-in-end
-part-days-in-end c = omega (arith, dates-inside (c .before .before) .1)
+part-days-in-end c = omega (arith, dates-inside (dates-read (c .before .before)) .1)
 
 days-in-requires : tie.Need-days-in-requires
 days-in-requires c κs = search needs
 
-returns-5 : tie.Need-returns-5
-returns-5 c =
-    let n = c .before .before in
+sub-mark-in : tie.Need-sub-mark-in
+sub-mark-in c = omega (arith, mark-inside (c .before .before .before .before) .0)
+
+part-mark-in-start : tie.Need-part-mark-in-start
+part-mark-in-start c = omega (arith, mark-inside (c .before .before .before .before) .0)
+
+part-mark-in-end : tie.Need-part-mark-in-end
+part-mark-in-end c = omega (arith, mark-inside (c .before .before .before .before) .1)
+
+mark-in-requires : tie.Need-mark-in-requires
+mark-in-requires c κs = search needs
+
+returns-6 : tie.Need-returns-6
+returns-6 c =
+    let m = c .before .before in
+    let n = m .before .before in
     let k = n .before .before in
-    let t = title-read k in
+    let d = dates-read k in
+    let t = title-read d in
     let o = ordinal-read t in
-    cue-read (first-at (phrase-read o)) (second-at o) (third-at t) (fourth-at k) (n .number-at .ensures .0) (c .days-in .ensures)
+    cue-read (first-at (phrase-read o)) (second-at o) (third-at t) (fourth-at d) (fifth-at k) (n .number-at .ensures .0) (m .days-in .ensures) (c .mark-in .ensures)
 
 pub read-cue-spec : {M : Type 1} → statement M
 read-cue-spec =
@@ -200,6 +244,11 @@ read-cue-spec =
     enum-told-4
     field-number-requires-4
     returns-4
+    read-due-requires-2
+    enum-known-fifth
+    enum-told-5
+    field-number-requires-5
+    returns-5
     sub-number-at
     part-number-at-start
     part-number-at-end
@@ -209,4 +258,8 @@ read-cue-spec =
     part-days-in-start
     part-days-in-end
     days-in-requires
-    returns-5)
+    sub-mark-in
+    part-mark-in-start
+    part-mark-in-end
+    mark-in-requires
+    returns-6)

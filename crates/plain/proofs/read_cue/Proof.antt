@@ -20,15 +20,18 @@ enum-known-answer c = search needs
 passed-days-requires : tie.Need-passed-days-requires
 passed-days-requires c κs = search needs
 
-sub-t14 : tie.Need-sub-t14
-sub-t14 c =
-    let a = c .before .before in
+passed-mark-requires : tie.Need-passed-mark-requires
+passed-mark-requires c κs = search needs
+
+sub-t16 : tie.Need-sub-t16
+sub-t16 c =
+    let a = c .before .before .before in
     let there = cue-at (read a .read-cue .ensures) (a .answer .given .1) in
     omega arith
 
-sub-t15 : tie.Need-sub-t15
-sub-t15 c =
-    let a = c .before .before in
+sub-t17 : tie.Need-sub-t17
+sub-t17 c =
+    let a = c .before .before .before in
     let there = title-ends (cue-at (read a .read-cue .ensures) (a .answer .given .1)) in
     omega arith
 
@@ -37,11 +40,12 @@ enum-known-answer-2 c = search needs
 
 returns : tie.Need-returns
 returns c =
-    let a = c .before .before in
-    rw (c .passed-days .ensures) (ap cuePassed (sym (a .answer .given .1) ∙ read a .read-cue .ensures .answer))
+    let d = c .before in
+    let a = d .before .before in
+    rw (d .passed-days .ensures, c .passed-mark .ensures) (ap cuePassed (sym (a .answer .given .1) ∙ read a .read-cue .ensures .answer))
 
 returns-2 : tie.Need-returns-2
 returns-2 c = ap cuePassed (sym (c .before .answer2 .given .1) ∙ c .before .before .before .read-cue .ensures .answer)
 
 pub read-cue-spec : {M : Type 1} → statement M
-read-cue-spec = tie.close (tie.spec read-cue-requires enum-known-answer passed-days-requires sub-t14 sub-t15 enum-known-answer-2 returns returns-2)
+read-cue-spec = tie.close (tie.spec read-cue-requires enum-known-answer passed-days-requires passed-mark-requires sub-t16 sub-t17 enum-known-answer-2 returns returns-2)

@@ -4,15 +4,16 @@ use mathlib.Core.Path.{_≡_, sym, _∙_}
 use native.Mathlib.Omega.{arith}
 use lib.ListN.{length-drop}
 use Rattle.plain.specs.Plain.{unknownAt, fieldDue}
-use Rattle.plain.proofs.Plain.{due-phrase, due-ordinal, due-title, due-dates, due-unknown, unknown-short, unknown-tag}
+use Rattle.plain.proofs.Plain.{due-phrase, due-ordinal, due-title, due-dates, due-house, due-unknown, unknown-short, unknown-tag}
 use Rattle.plain.proofs.read_due.Statement.{statement}
 use Rattle.plain.proofs.read_due.Tie as tie
 
 -- the number is no tag
-unknown : (e : tie.Else4) → let a = e .before .before .before .before .before .args in fieldDue (a .book .now) (a .place) (a .due) ≡ unknownAt (a .book .now) (a .place)
+unknown : (e : tie.Else5) → let a = e .before .before .before .before .before .before .args in fieldDue (a .book .now) (a .place) (a .due) ≡ unknownAt (a .book .now) (a .place)
 unknown e =
-    let a = e .before .before .before .before .before .args in
-    due-unknown (a .book .now) (a .place) (a .due) (e .before .before .before .if1 .left) (e .before .before .if2 .left) (e .before .if3 .left) (e .if4 .left)
+    let f = e .before in
+    let a = f .before .before .before .before .before .args in
+    due-unknown (a .book .now) (a .place) (a .due) (f .before .before .before .if1 .left) (f .before .before .if2 .left) (f .before .if3 .left) (f .if4 .left) (e .if5 .left)
 
 read-field-requires : tie.Need-read-field-requires
 read-field-requires c κs = search needs
@@ -45,22 +46,33 @@ returns-4 c =
     let a = e .before .before .before .before .args in
     c .read-field4 .ensures .answer ∙ sym (due-dates (a .book .now) (a .place) (a .due) (e .before .before .if1 .left) (e .before .if2 .left) (e .if3 .left) (c .before .if4 .taken))
 
+read-field-requires-5 : tie.Need-read-field-requires-5
+read-field-requires-5 c κs = search needs
+
 returns-5 : tie.Need-returns-5
 returns-5 c =
-    let a = c .before .before .before .before .before .before .args in
-    sym (unknown (c .before) ∙ unknown-short (a .book .now) (a .place) (omega (arith, length-drop (a .place) (a .book .now))))
-
-sub-if6 : tie.Need-sub-if6
-sub-if6 c = search needs
+    let e = c .before .before in
+    let f = e .before in
+    let a = f .before .before .before .before .args in
+    c .read-field5 .ensures .answer
+    ∙ sym (due-house (a .book .now) (a .place) (a .due) (f .before .before .if1 .left) (f .before .if2 .left) (f .if3 .left) (e .if4 .left) (c .before .if5 .taken))
 
 returns-6 : tie.Need-returns-6
 returns-6 c =
     let a = c .before .before .before .before .before .before .before .args in
-    sym (unknown (c .before .before) ∙ unknown-short (a .book .now) (a .place) (omega (arith, length-drop (a .place) (a .book .now))))
+    sym (unknown (c .before) ∙ unknown-short (a .book .now) (a .place) (omega (arith, length-drop (a .place) (a .book .now))))
+
+sub-if7 : tie.Need-sub-if7
+sub-if7 c = search needs
 
 returns-7 : tie.Need-returns-7
 returns-7 c =
-    let a = c .before .before .before .before .before .before .before .args in
+    let a = c .before .before .before .before .before .before .before .before .args in
+    sym (unknown (c .before .before) ∙ unknown-short (a .book .now) (a .place) (omega (arith, length-drop (a .place) (a .book .now))))
+
+returns-8 : tie.Need-returns-8
+returns-8 c =
+    let a = c .before .before .before .before .before .before .before .before .args in
     sym (unknown (c .before .before) ∙ unknown-tag (a .book .now) (a .place) (omega (arith, length-drop (a .place) (a .book .now))))
 
 pub read-due-spec : {M : Type 1} → statement M
@@ -75,7 +87,9 @@ read-due-spec =
     returns-3
     read-field-requires-4
     returns-4
+    read-field-requires-5
     returns-5
-    sub-if6
     returns-6
-    returns-7)
+    sub-if7
+    returns-7
+    returns-8)

@@ -1,0 +1,2 @@
+-- The roles, and what each may do.
+pub mod Roles
