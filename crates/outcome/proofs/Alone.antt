@@ -1,4 +1,4 @@
--- The cues that do not play (document 02, (viii)): the outcome is that of a book in which only the playing ones stand, but for the numbers by which a fault names a cue (`playing-alone`). For any fold.
+-- The cues that are not chosen, since they do not play (document 02, (viii)) or the role does not see them (document 02, (xiv)): the outcome is that of a book in which only the chosen ones stand, but for the numbers by which a fault names a cue (`playing-alone`); and a guest gets the same of two books whose open cues are the same (`secrecy`). For any fold.
 -- Assumes nothing.
 use mathlib.Core.Path.{_≡_, refl, sym, ap, ap₂, subst, _∙_}
 use Prim.Native.Nat.{ℕ, suc, _*_}
@@ -10,11 +10,12 @@ use lib.Dec.{eqb, ltb}
 use borrow.Author.Tests.{ne-eqb, eqb-true, eqb-false}
 use Rattle.matching.proofs.CaseAnalysis.{by-test, neither}
 use Rattle.matching.proofs.Those.{those-append, those-few}
+use Rattle.roles.specs.Roles.{guest}
 use Rattle.cues.specs.Cue.{Cue, playsOn}
-use Rattle.cue_book.specs.Reading.{cues, playing}
-use Rattle.outcome.specs.Outcome.{Numbered, chosen, cuesOf, placeOf, cueFault, Judged, judge, entriesOf, readsOf, resolution, Call, callRefusal, refusing, withCues, withBook, outcome}
-use Rattle.outcome.specs.Told.{Another, SameCue, namesCue, PlayingAlone}
-use Rattle.outcome.proofs.Choosing.{chosen-cues, length-chosen, playing-twice, names}
+use Rattle.cue_book.specs.Reading.{cues, playing, seen, playingFor}
+use Rattle.outcome.specs.Outcome.{Numbered, chosenFrom, chosen, cuesOf, placeOf, cueFault, Judged, judge, entriesOf, readsOf, resolution, Call, callRefusal, Outcome, refusing, withCues, withBook, outcome}
+use Rattle.outcome.specs.Told.{Another, openCues, SameCue, namesCue, PlayingAlone}
+use Rattle.outcome.proofs.Choosing.{chosen-cues, length-chosen, playing-twice, names, guest-sees, alone-seen}
 use Rattle.outcome.proofs.Judging.{rises-none, two-faults, judge-on, judge-stop, one-faulted}
 use Rattle.outcome.proofs.Calls.{call-another}
 
@@ -74,34 +75,42 @@ front-plays day front back e =
       those-few (playsOn day) back,
     )
 
-module _ (f : ℕ → ℕ) (c : Call) (whole : List Cue) where
+module _ (f : ℕ → ℕ) (c : Call) (book : List Cue) where
   abbrev day : ℕ
-  day = c .day
+  day = c .who .day
+
+  -- what the role sees of the book, and what plays of that
+  abbrev whole : List Cue
+  whole = seen (c .who .role) book
 
   abbrev alone : List Cue
   alone = playing day whole
 
+  -- chosen of the book with those alone
+  chosen-alone : chosen (c .who) alone ≡ chosenFrom day 0 alone
+  chosen-alone = ap (chosenFrom day 0) (alone-seen (c .who) book)
+
   -- the cues chosen of both books are the same
-  same-cues : cuesOf (chosen day whole) ≡ cuesOf (chosen day alone)
+  same-cues : cuesOf (chosenFrom day 0 whole) ≡ cuesOf (chosenFrom day 0 alone)
   same-cues = chosen-cues day 0 whole ∙ sym (playing-twice day whole) ∙ sym (chosen-cues day 0 alone)
 
-  same-length : length (chosen day whole) ≡ length (chosen day alone)
+  same-length : length (chosenFrom day 0 whole) ≡ length (chosenFrom day 0 alone)
   same-length = length-chosen day 0 whole ∙ ap length (sym (playing-twice day whole)) ∙ sym (length-chosen day 0 alone)
 
   abbrev j : Judged
-  j = judge f (c .text) [] (chosen day whole)
+  j = judge f (c .text) [] (chosenFrom day 0 whole)
 
   abbrev j′ : Judged
-  j′ = judge f (c .text) [] (chosen day alone)
+  j′ = judge f (c .text) [] (chosenFrom day 0 alone)
 
   judged : Alike j j′
-  judged = alike f (c .text) [] (chosen day whole) (chosen day alone) same-cues
+  judged = alike f (c .text) [] (chosenFrom day 0 whole) (chosenFrom day 0 alone) same-cues
 
   -- a fault names the same cue
   fault-same : (j .refusal ≡ 0 → ⊥) → SameCue day whole (j .number) (j′ .number)
   fault-same some =
-      let g = one-faulted f (c .text) [] (chosen day whole) rises-none some in
-      let g′ = one-faulted f (c .text) [] (chosen day alone) rises-none (λ z. some (judged .refusal ∙ z)) in
+      let g = one-faulted f (c .text) [] (chosenFrom day 0 whole) rises-none some in
+      let g′ = one-faulted f (c .text) [] (chosenFrom day 0 alone) rises-none (λ z. some (judged .refusal ∙ z)) in
       let n = names day 0 whole (g .before) (g .faulty) (g .later) (g .all) in
       let n′ = names day 0 alone (g′ .before) (g′ .faulty) (g′ .later) (g′ .all) in
       let many : length (cuesOf (g .before)) ≡ length (cuesOf (g′ .before)) =
@@ -131,7 +140,7 @@ module _ (f : ℕ → ℕ) (c : Call) (whole : List Cue) where
       record { works = refl; refusal = refl; reads = refl; written = refl; number = λ _. refl; named = λ w. absurd (false≢true (sym none ∙ w)) }
 
   resolved-alone :
-      PlayingAlone day whole (record { works = true; resolution = resolution f (c .text) (chosen day whole) }) (record { works = true; resolution = resolution f (c .text) (chosen day alone) })
+      PlayingAlone day whole (record { works = true; resolution = resolution f (c .text) (chosenFrom day 0 whole) }) (record { works = true; resolution = resolution f (c .text) (chosenFrom day 0 alone) })
   unfolding resolution
   resolved-alone =
       record {
@@ -150,26 +159,46 @@ module _ (f : ℕ → ℕ) (c : Call) (whole : List Cue) where
           (eqb-true (j .refusal) 0)
           (λ t.
           let some = eqb-false (j .refusal) 0 t in
-          let g = one-faulted f (c .text) [] (chosen day whole) rises-none some in
+          let g = one-faulted f (c .text) [] (chosenFrom day 0 whole) rises-none some in
           let n = neither (eqb (j .refusal) 12) (eqb (j .refusal) 15) w in
           let other : Another (j .refusal) = record { not-0 = some; not-12 = eqb-false (j .refusal) 12 (n .0); not-15 = eqb-false (j .refusal) 15 (n .1) } in
           absurd (two-faults f (c .text) (j .places) (g .faulty .cue) (subst Another (g .why) other)))
 
-  book-alone : PlayingAlone day whole (withBook f c (cues whole)) (withBook f c (cues alone))
-  unfolding withBook withCues
-  book-alone =
+  -- by the cues that are chosen
+  with-alone : PlayingAlone day whole (withCues f c (chosenFrom day 0 whole)) (withCues f c (chosenFrom day 0 alone))
+  unfolding withCues
+  with-alone =
       rw same-length
       (by-test
-      (λ t. PlayingAlone day whole (cond t (refusing 11 0) (record { works = true; resolution = resolution f (c .text) (chosen day whole) })) (cond t (refusing 11 0) (record { works = true; resolution = resolution f (c .text) (chosen day alone) })))
-      (ltb (c .entries) (3 * length (chosen day alone)))
+      (λ t. PlayingAlone day whole (cond t (refusing 11 0) (record { works = true; resolution = resolution f (c .text) (chosenFrom day 0 whole) })) (cond t (refusing 11 0) (record { works = true; resolution = resolution f (c .text) (chosenFrom day 0 alone) })))
+      (ltb (c .entries) (3 * length (chosenFrom day 0 alone)))
       (λ _. refusing-alone 11 0 (record { not-0 = λ z. omega arith; not-12 = λ z. omega arith; not-15 = λ z. omega arith }))
       (λ _. resolved-alone))
 
-  pub playing-alone : PlayingAlone day whole (outcome f c (cues whole)) (outcome f c (cues alone))
+  book-alone : PlayingAlone day whole (withBook f c (cues book)) (withBook f c (cues alone))
+  unfolding withBook
+  book-alone = subst (λ (xs : List Numbered). PlayingAlone day whole (withCues f c (chosenFrom day 0 whole)) (withCues f c xs)) (sym chosen-alone) with-alone
+
+  pub playing-alone : PlayingAlone day whole (outcome f c (cues book)) (outcome f c (cues alone))
   unfolding outcome
   playing-alone =
       by-test
-      (λ t. PlayingAlone day whole (cond t (withBook f c (cues whole)) (refusing (callRefusal c) 0)) (cond t (withBook f c (cues alone)) (refusing (callRefusal c) 0)))
+      (λ t. PlayingAlone day whole (cond t (withBook f c (cues book)) (refusing (callRefusal c) 0)) (cond t (withBook f c (cues alone)) (refusing (callRefusal c) 0)))
       (eqb (callRefusal c) 0)
       (λ _. book-alone)
       (λ t. refusing-alone (callRefusal c) 0 (call-another c (eqb-false (callRefusal c) 0 t)))
+
+-- ---- what a guest cannot learn
+
+module _ (f : ℕ → ℕ) (c : Call) (one other : List Cue) (guests : c .who .role ≡ guest) (same : openCues one ≡ openCues other) where
+  -- a guest sees the same of both books
+  seen-same : seen (c .who .role) one ≡ seen (c .who .role) other
+  seen-same = ap (λ (role : ℕ). seen role one) guests ∙ guest-sees one ∙ same ∙ sym (guest-sees other) ∙ ap (λ (role : ℕ). seen role other) (sym guests)
+
+  book-same : withBook f c (cues one) ≡ withBook f c (cues other)
+  unfolding withBook
+  book-same = ap (λ (cs : List Cue). withCues f c (chosenFrom (c .who .day) 0 cs)) seen-same
+
+  pub secrecy : outcome f c (cues one) ≡ outcome f c (cues other)
+  unfolding outcome
+  secrecy = ap (λ (o : Outcome). cond (eqb (callRefusal c) 0) o (refusing (callRefusal c) 0)) book-same

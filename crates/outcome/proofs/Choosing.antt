@@ -1,5 +1,5 @@
--- Choosing the cues that play on a day: what they are, their numbers, and the cue that a number names. Assumes nothing.
-use mathlib.Core.Path.{_≡_, refl, sym, ap, _∙_}
+-- Choosing the cues that a role sees and that play on a day: what they are, their numbers, and the cue that a number names. Assumes nothing.
+use mathlib.Core.Path.{_≡_, refl, sym, ap, ap₂, _∙_}
 use Prim.Native.Nat.{ℕ, suc, _+_}
 use native.Mathlib.Omega.{arith}
 use mathlib.Core.Bool.{Bool, true, false, cond}
@@ -7,9 +7,15 @@ use mathlib.Core.List.{List, [], _∷_, _++_}
 use lib.ListN.{length, length-map}
 use Rattle.matching.specs.Joined.{those}
 use Rattle.matching.proofs.CaseAnalysis.{by-test}
-use Rattle.cues.specs.Cue.{Cue, playsOn}
-use Rattle.cue_book.specs.Reading.{playing}
-use Rattle.outcome.specs.Outcome.{Numbered, numberedFrom, chosenFrom, cuesOf}
+use Rattle.matching.proofs.Those.{those-next, those-skip, those-all, those-sound, those-stands}
+use Rattle.roles.specs.Roles.{operator, guest}
+use Rattle.cues.specs.declared.Mark.{Mark}
+use Rattle.cues.specs.declared.Mark.the-variants.{Unmarked, Open, HouseOnly}
+use Rattle.cues.specs.declared.Choice.{Choice}
+use Rattle.cues.specs.Cue.{Cue, playsOn, isOpen, sees, seenBy}
+use Rattle.cue_book.specs.Reading.{playing, seen, playingFor}
+use Rattle.outcome.specs.Outcome.{Numbered, numberedFrom, chosenFrom, chosen, cuesOf}
+use Rattle.outcome.specs.Told.{openCues}
 
 module _ (day : ℕ) where
   -- ---- by the first cue
@@ -30,15 +36,6 @@ module _ (day : ℕ) where
   unfolding chosenFrom those numberedFrom
   chosen-not k c cs e = ap (firstChosen k c cs) e
 
-  -- the same of the cues alone
-  plays-next : (c : Cue) (cs : List Cue) → playsOn day c ≡ true → playing day (c ∷ cs) ≡ c ∷ playing day cs
-  unfolding those
-  plays-next c cs e = rw e
-
-  plays-skip : (c : Cue) (cs : List Cue) → playsOn day c ≡ false → playing day (c ∷ cs) ≡ playing day cs
-  unfolding those
-  plays-skip c cs e = rw e
-
   -- ---- the cues chosen are those that play
 
   pub chosen-cues : (k : ℕ) (cs : List Cue) → cuesOf (chosenFrom day k cs) ≡ playing day cs
@@ -46,20 +43,15 @@ module _ (day : ℕ) where
   chosen-cues k [] = ap cuesOf (chosen-none k)
   chosen-cues k (c ∷ cs) =
       by-test (λ _. cuesOf (chosenFrom day k (c ∷ cs)) ≡ playing day (c ∷ cs)) (playsOn day c)
-      (λ e. ap cuesOf (chosen-plays k c cs e) ∙ ap (λ (l : List Cue). c ∷ l) (chosen-cues (suc k) cs) ∙ sym (plays-next c cs e))
-      (λ e. ap cuesOf (chosen-not k c cs e) ∙ chosen-cues (suc k) cs ∙ sym (plays-skip c cs e))
+      (λ e. ap cuesOf (chosen-plays k c cs e) ∙ ap (λ (l : List Cue). c ∷ l) (chosen-cues (suc k) cs) ∙ sym (those-next (playsOn day) c cs e))
+      (λ e. ap cuesOf (chosen-not k c cs e) ∙ chosen-cues (suc k) cs ∙ sym (those-skip (playsOn day) c cs e))
 
   pub length-chosen : (k : ℕ) (cs : List Cue) → length (chosenFrom day k cs) ≡ length (playing day cs)
   length-chosen k cs = sym (length-map (chosenFrom day k cs) (λ (x : Numbered). x .cue)) ∙ ap length (chosen-cues k cs)
 
   -- those that play all do
   pub playing-twice : (cs : List Cue) → playing day (playing day cs) ≡ playing day cs
-  unfolding those
-  playing-twice [] = refl
-  playing-twice (c ∷ cs) =
-      by-test (λ _. playing day (playing day (c ∷ cs)) ≡ playing day (c ∷ cs)) (playsOn day c)
-      (λ e. ap (playing day) (plays-next c cs e) ∙ plays-next c (playing day cs) e ∙ ap (λ (l : List Cue). c ∷ l) (playing-twice cs) ∙ sym (plays-next c cs e))
-      (λ e. ap (playing day) (plays-skip c cs e) ∙ playing-twice cs ∙ sym (plays-skip c cs e))
+  playing-twice cs = those-all (playsOn day) (playing day cs) (λ c m. those-sound (playsOn day) cs c m .1)
 
   -- ---- a number names a cue of the book: as many come before it as the number says, and those that play are chosen before it
 
@@ -89,7 +81,7 @@ module _ (day : ℕ) where
         split = ap (λ (l : List Cue). c ∷ l) (n .split);
         plays = n .plays;
         number-is = omega (arith, n .number-is);
-        earlier = n .earlier ∙ sym (plays-skip c (n .front) p);
+        earlier = n .earlier ∙ sym (those-skip (playsOn day) c (n .front) p);
         others = n .others;
       }
 
@@ -102,7 +94,7 @@ module _ (day : ℕ) where
         split = ap (λ (l : List Cue). c ∷ l) (n .split);
         plays = n .plays;
         number-is = omega (arith, n .number-is);
-        earlier = ap (λ (d : Cue). d ∷ cuesOf before) (sym same) ∙ ap (λ (l : List Cue). c ∷ l) (n .earlier) ∙ sym (plays-next c (n .front) p);
+        earlier = ap (λ (d : Cue). d ∷ cuesOf before) (sym same) ∙ ap (λ (l : List Cue). c ∷ l) (n .earlier) ∙ sym (those-next (playsOn day) c (n .front) p);
         others = n .others;
       }
 
@@ -132,3 +124,63 @@ module _ (day : ℕ) where
       let first : record { number = k; cue = c } ∷ chosenFrom day (suc k) cs ≡ b ∷ before ++ x ∷ later = sym (chosen-plays k c cs p) ∙ e in
       names-next c b p (ap (λ (l : List Numbered). headOr b l .cue) first) (names (suc k) cs before x later (ap tailOf first)))
       (λ p. names-skip c p (names (suc k) cs (b ∷ before) x later (sym (chosen-not k c cs p) ∙ e)))
+
+-- ---- what a role sees
+
+-- the operator sees every cue, so that a number is the index in the book
+pub operator-sees : (cs : List Cue) → seen operator cs ≡ cs
+operator-sees cs = those-all (seenBy operator) cs (λ c _. whatever (c .mark))
+  where
+    whatever : (mark : Mark) → sees operator mark ≡ true
+    whatever Unmarked = refl
+    whatever Open = refl
+    whatever HouseOnly = refl
+
+-- a guest sees the open ones
+pub guest-sees : (cs : List Cue) → seen guest cs ≡ openCues cs
+unfolding those
+guest-sees [] = refl
+guest-sees (c ∷ cs) = ap₂ (λ (t : Bool) (l : List Cue). cond t (c ∷ l) l) (open-seen (c .mark)) (guest-sees cs)
+  where
+    open-seen : (mark : Mark) → sees guest mark ≡ isOpen mark
+    open-seen Unmarked = refl
+    open-seen Open = refl
+    open-seen HouseOnly = refl
+
+-- the cues chosen are those that the role sees and that play
+module _ (who : Choice) where
+  pub chosen-are : (cs : List Cue) → cuesOf (chosen who cs) ≡ playingFor who cs
+  chosen-are cs = chosen-cues (who .day) 0 (seen (who .role) cs)
+
+  pub length-for : (cs : List Cue) → length (chosen who cs) ≡ length (playingFor who cs)
+  length-for cs = length-chosen (who .day) 0 (seen (who .role) cs)
+
+  -- of a book in which only the chosen ones stand the role sees all
+  pub alone-seen : (cs : List Cue) → seen (who .role) (playingFor who cs) ≡ playingFor who cs
+  alone-seen cs = those-all (seenBy (who .role)) (playingFor who cs) (λ c m. those-sound (seenBy (who .role)) cs c (those-sound (playsOn (who .day)) (seen (who .role) cs) c m .0) .1)
+
+  -- a number names a cue of the book: as many that the role sees come before it as the number says, and those of them that play are chosen before it
+  pub record NamesSeen (cs : List Cue) (before : List Numbered) (x : Numbered) (later : List Numbered) : Type 0 where
+    pub front : List Cue
+    pub back : List Cue
+    pub split : cs ≡ front ++ x .cue ∷ back
+    pub sees : seenBy (who .role) (x .cue) ≡ true
+    pub plays : playsOn (who .day) (x .cue) ≡ true
+    pub number-is : x .number ≡ length (seen (who .role) front)
+    pub earlier : cuesOf before ≡ playingFor who front
+    pub others : cuesOf later ≡ playingFor who back
+
+  pub names-seen : (cs : List Cue) (before : List Numbered) (x : Numbered) (later : List Numbered) → chosen who cs ≡ before ++ x ∷ later → NamesSeen cs before x later
+  names-seen cs before x later e =
+      let n = names (who .day) 0 (seen (who .role) cs) before x later e in
+      let s = those-stands (seenBy (who .role)) cs (n .front) (x .cue) (n .back) (n .split) in
+      record {
+        front = s .before;
+        back = s .after;
+        split = s .split;
+        sees = s .passes;
+        plays = n .plays;
+        number-is = omega (arith, n .number-is, ap length (s .earlier));
+        earlier = n .earlier ∙ ap (playing (who .day)) (sym (s .earlier));
+        others = n .others ∙ ap (playing (who .day)) (sym (s .later));
+      }

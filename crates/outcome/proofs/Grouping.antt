@@ -13,10 +13,11 @@ use Rattle.matching.specs.Joined.{those}
 use Rattle.matching.proofs.CaseAnalysis.{by-test, both}
 use Rattle.cue_fields.specs.Field.{fieldLength}
 use Rattle.cue_fields.specs.Form.{formBodies}
-use Rattle.cues.specs.Cue.{Cue, playsOn}
+use Rattle.cues.specs.declared.Choice.{Choice}
+use Rattle.cues.specs.Cue.{Cue, playsOn, seenBy}
 use Rattle.cues.specs.Reading.{cueRefusal, cueOf}
 use Rattle.cues.proofs.Cues.{cue-phrase}
-use Rattle.cue_book.specs.Reading.{cues, readBook, playing}
+use Rattle.cue_book.specs.Reading.{cues, readBook, seen, playingFor}
 use Rattle.cue_book.proofs.Books.{Left, left-all, left-first}
 use Rattle.outcome.specs.Outcome.{letters, few, short, fitting, fits, groupsAfter, groups, Judged, judgedCount, judgedOf, readsOf}
 use Rattle.outcome.specs.Told.{joined, AllSome, AllFit, AllFull, Grouping, Group, Holds, GroupOf, groupNumber}
@@ -176,17 +177,18 @@ unfolding AllFull groups
 groups-full [] = tt
 groups-full (c ∷ cs) = full-after (c ∷ []) cs
 
--- ---- so the groups of a book's cues that play are what document 02 says
+-- ---- so the groups of a book's chosen cues are what document 02 says
 
-those-fit : (day : ℕ) (cs : List Cue) → EachFits cs → EachFits (playing day cs)
+those-fit : (test : Cue → Bool) (cs : List Cue) → EachFits cs → EachFits (those test cs)
 unfolding EachFits those
-those-fit day [] e = tt
-those-fit day (c ∷ cs) e = by-test (λ t. EachFits (cond t (c ∷ playing day cs) (playing day cs))) (playsOn day c) (λ _. (e .0, those-fit day cs (e .1))) (λ _. those-fit day cs (e .1))
+those-fit test [] e = tt
+those-fit test (c ∷ cs) e = by-test (λ t. EachFits (cond t (c ∷ those test cs) (those test cs))) (test c) (λ _. (e .0, those-fit test cs (e .1))) (λ _. those-fit test cs (e .1))
 
-pub book-grouped : (day : ℕ) (book : List ℕ) {cs : List Cue} → readBook book ≡ cues cs → Grouping (playing day cs) (groups (playing day cs))
-book-grouped day book {cs} read =
-    let all : List Cue = playing day cs in
-    record { consecutive = groups-joined all; some = groups-some all; fit = groups-fit all (those-fit day cs (left-fit cs (left-all read))); full = groups-full all }
+pub book-grouped : (who : Choice) (book : List ℕ) {cs : List Cue} → readBook book ≡ cues cs → Grouping (playingFor who cs) (groups (playingFor who cs))
+book-grouped who book {cs} read =
+    let all : List Cue = playingFor who cs in
+    let fit = those-fit (playsOn (who .day)) (seen (who .role) cs) (those-fit (seenBy (who .role)) cs (left-fit cs (left-all read))) in
+    record { consecutive = groups-joined all; some = groups-some all; fit = groups-fit all fit; full = groups-full all }
 
 -- ---- the group of a cue
 

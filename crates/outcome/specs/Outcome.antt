@@ -1,4 +1,4 @@
--- What resolving the cues of a book comes to (document 01, "Cue book, folding, lines"; document 02, (iv) and (vi) to (viii)): which cues are chosen, where each stands, the first fault, what is written, and how
+-- What resolving the cues of a book comes to (document 01, "Cue book, folding, lines"; document 02, (iv), (vi) to (viii) and (xiv)): which cues are chosen, where each stands, the first fault, what is written, and how
 -- often the text's letters are read. It says nothing of how the places are found.
 use Prim.Native.Nat.{ℕ, suc, _+_, _-_, _*_}
 use mathlib.Core.Bool.{Bool, true, false, cond, not, _&&_, _||_}
@@ -8,10 +8,12 @@ use lib.Dec.{eqb, ltb, leb}
 use Rattle.matching.specs.Occurrences.{occurrences, hasNth}
 use Rattle.matching.specs.Joined.{those}
 use Rattle.matching.specs.Refusals.{Test, firstMet}
+use Rattle.roles.specs.Roles.{mayResolve, notAllowed}
 use Rattle.calendar.specs.Calendar.{lastDay}
 use Rattle.fold.specs.Fold.{isPage}
+use Rattle.cues.specs.declared.Choice.{Choice}
 use Rattle.cues.specs.Cue.{Cue, playsOn}
-use Rattle.cue_book.specs.Reading.{Reading, refused, cues}
+use Rattle.cue_book.specs.Reading.{Reading, refused, cues, seen}
 use Rattle.line_column.specs.LineColumn.{lastOf, lineColumn}
 
 -- ---- choose: the cues that are resolved, each with the number by which a fault names it
@@ -30,9 +32,10 @@ unfoldable pub chosenFrom : ℕ → ℕ → List Cue → List Numbered
 unfolding those numberedFrom
 chosenFrom day k cs = those (λ x. playsOn day (x .cue)) (numberedFrom k cs)
 
--- the cues of a book that play on a day, each by its index in the book
-abbrev pub chosen : ℕ → List Cue → List Numbered
-chosen day cs = chosenFrom day 0 cs
+-- the cues of a book that are chosen for a role and a day: those that the role sees are numbered, and of these the playing ones are kept. So a number is the index in the book for an operator, who sees
+-- every cue, and for a guest the index among the open cues, playing or not
+abbrev pub chosen : Choice → List Cue → List Numbered
+chosen who cs = chosenFrom (who .day) 0 (seen (who .role) cs)
 
 -- the cues of numbered ones
 abbrev pub cuesOf : List Numbered → List Cue
@@ -160,23 +163,24 @@ resolution f text xs =
 
 -- ---- a call
 
--- the refusals before the book is read: a day, a page, a text of n bytes, and the lengths of text copy and scratch
-abbrev pub callTests : ℕ → ℕ → ℕ → ℕ → ℕ → List Test
-callTests day page n copy scratch =
-    (ltb lastDay day, 16) ∷
+-- the refusals before the book is read: a role and a day, a page, a text of n bytes, and the lengths of text copy and scratch
+abbrev pub callTests : Choice → ℕ → ℕ → ℕ → ℕ → List Test
+callTests who page n copy scratch =
+    (not (mayResolve (who .role)), notAllowed) ∷
+    (ltb lastDay (who .day), 16) ∷
     (ltb 32768 n, 4) ∷
     (ltb scratch 65535, 5) ∷
     (not (isPage page), 14) ∷
     (ltb copy n, 6) ∷
     []
 
-unfoldable pub callRefusalOf : ℕ → ℕ → ℕ → ℕ → ℕ → ℕ
+unfoldable pub callRefusalOf : Choice → ℕ → ℕ → ℕ → ℕ → ℕ
 unfolding firstMet isPage
-callRefusalOf day page n copy scratch = firstMet (callTests day page n copy scratch)
+callRefusalOf who page n copy scratch = firstMet (callTests who page n copy scratch)
 
 -- what a call is told and lent, but for the book. What the lent memory held plays no part: only its lengths do
 pub record Call : Type 0 where
-  pub day : ℕ
+  pub who : Choice
   pub page : ℕ
   pub text : List ℕ
   pub copy : ℕ
@@ -184,7 +188,7 @@ pub record Call : Type 0 where
   pub entries : ℕ
 
 abbrev pub callRefusal : Call → ℕ
-callRefusal c = callRefusalOf (c .day) (c .page) (length (c .text)) (c .copy) (c .scratch)
+callRefusal c = callRefusalOf (c .who) (c .page) (length (c .text)) (c .copy) (c .scratch)
 
 -- whether the cues are resolved, so that the lent memory is worked on, and what comes of it
 pub record Outcome : Type 0 where
@@ -200,11 +204,11 @@ unfoldable pub withCues : (ℕ → ℕ) → Call → List Numbered → Outcome
 unfolding resolution
 withCues f c xs = cond (ltb (c .entries) (3 * length xs)) (refusing 11 0) (record { works = true; resolution = resolution f (c .text) xs })
 
--- the book is read whole, 10 included, whatever of it plays; then its chosen cues
+-- the book is read whole, 10 included, whatever of it is chosen; then its chosen cues
 unfoldable pub withBook : (ℕ → ℕ) → Call → Reading → Outcome
 unfolding chosenFrom withCues
 withBook f c (refused number index) = refusing number index
-withBook f c (cues cs) = withCues f c (chosen (c .day) cs)
+withBook f c (cues cs) = withCues f c (chosen (c .who) cs)
 
 -- the outcome of a call with what its book reads as, by its page's fold f
 unfoldable pub outcome : (ℕ → ℕ) → Call → Reading → Outcome

@@ -7,8 +7,11 @@ use lib.ListN.{length, getD, take, drop}
 use lib.Dec.{eqb}
 use Rattle.matching.specs.Occurrences.{Occurs}
 use Rattle.matching.specs.Received.{received}
-use Rattle.cues.specs.Cue.{Cue, playsOn}
-use Rattle.cue_book.specs.Reading.{Reading, cues, readBook, playing}
+use Rattle.matching.specs.Joined.{those}
+use Rattle.roles.specs.Roles.{guest}
+use Rattle.cues.specs.declared.Choice.{Choice}
+use Rattle.cues.specs.Cue.{Cue, playsOn, isOpen, seenBy}
+use Rattle.cue_book.specs.Reading.{Reading, cues, readBook, playing, seen, playingFor}
 use Rattle.line_column.specs.LineColumn.{lineColumn}
 use Rattle.outcome.specs.Outcome.{Numbered, cuesOf, cueOccurrences, isThere, placeOf, cueFault, Judged, entriesOf, fits, groups, Call, Outcome, outcome}
 
@@ -118,31 +121,32 @@ module _ (f : ℕ → ℕ) (text : List ℕ) where
     pub named : Named c (placeOf f text c)
     pub entered : take 3 (drop (3 * index) entries) ≡ entriesOf text (placeOf f text c ∷ [])
 
-  -- refusal 0: the book reads as cues, the number is how many play on the day, every one of these came out, their places rise, and every letter was read once for each of their groups
-  pub record AllOut (day : ℕ) (book entries : List ℕ) (number reads : ℕ) : Type 0 where
+  -- refusal 0: the book reads as cues, the number is how many of them are chosen, every one of these came out, their places rise, and every letter was read once for each of their groups
+  pub record AllOut (who : Choice) (book entries : List ℕ) (number reads : ℕ) : Type 0 where
     pub whole : List Cue
     pub read : readBook book ≡ cues whole
-    pub number-is : number ≡ length (playing day whole)
-    pub rises : Rises (placesOf (playing day whole))
-    pub grouped : Grouping (playing day whole) (groups (playing day whole))
-    pub reads-are : reads ≡ length text * length (groups (playing day whole))
-    pub out : (before : List Cue) (c : Cue) (later : List Cue) → playing day whole ≡ before ++ c ∷ later → CameOut entries (length before) c
+    pub number-is : number ≡ length (playingFor who whole)
+    pub rises : Rises (placesOf (playingFor who whole))
+    pub grouped : Grouping (playingFor who whole) (groups (playingFor who whole))
+    pub reads-are : reads ≡ length text * length (groups (playingFor who whole))
+    pub out : (before : List Cue) (c : Cue) (later : List Cue) → playingFor who whole ≡ before ++ c ∷ later → CameOut entries (length before) c
 
-  -- a cue's fault: the book reads as cues, and the number is the index among all of them of one that plays on the day and has this fault, which may speak of the playing ones before it; every one of those
-  -- came out, their places rise, and every letter was read once for each group up to its own
-  pub record OneFaulty (day : ℕ) (Fault : List Cue → Cue → Type 0) (book entries : List ℕ) (number reads : ℕ) : Type 0 where
+  -- a cue's fault: the book reads as cues, one of them is seen by the role, plays on the day and has this fault, which may speak of the chosen ones before it, and the number is its index among those that the
+  -- role sees; every chosen one before it came out, their places rise, and every letter was read once for each group up to its own
+  pub record OneFaulty (who : Choice) (Fault : List Cue → Cue → Type 0) (book entries : List ℕ) (number reads : ℕ) : Type 0 where
     pub before : List Cue
     pub faulty : Cue
     pub after : List Cue
     pub read : readBook book ≡ cues (before ++ faulty ∷ after)
-    pub plays : playsOn day faulty ≡ true
-    pub number-is : number ≡ length before
-    pub fault : Fault (playing day before) faulty
-    pub rises : Rises (placesOf (playing day before))
-    pub grouped : Grouping (playing day before ++ faulty ∷ playing day after) (groups (playing day before ++ faulty ∷ playing day after))
-    pub group : GroupOf (playing day before) faulty (playing day after)
+    pub sees : seenBy (who .role) faulty ≡ true
+    pub plays : playsOn (who .day) faulty ≡ true
+    pub number-is : number ≡ length (seen (who .role) before)
+    pub fault : Fault (playingFor who before) faulty
+    pub rises : Rises (placesOf (playingFor who before))
+    pub grouped : Grouping (playingFor who before ++ faulty ∷ playingFor who after) (groups (playingFor who before ++ faulty ∷ playingFor who after))
+    pub group : GroupOf (playingFor who before) faulty (playingFor who after)
     pub reads-are : reads ≡ length text * groupNumber group
-    pub out : (earlier : List Cue) (c : Cue) (later : List Cue) → playing day before ≡ earlier ++ c ∷ later → CameOut entries (length earlier) c
+    pub out : (earlier : List Cue) (c : Cue) (later : List Cue) → playingFor who before ≡ earlier ++ c ∷ later → CameOut entries (length earlier) c
 
   -- refusal 12: its occurrence does not exist
   abbrev pub Missing : List Cue → Cue → Type 0
@@ -168,9 +172,13 @@ pub record Idle (o : Outcome) : Type 0 where
   pub reads : o .resolution .reads ≡ 0
   pub written : o .resolution .written ≡ []
 
--- ---- the day (document 02, (viii))
+-- ---- the day (document 02, (viii)) and the role (document 02, (xiv))
 
--- two numbers name the same cue of those that play on a day: the one in the whole book, the other among those
+-- the open cues of a book
+abbrev pub openCues : List Cue → List Cue
+openCues cs = those (λ c. isOpen (c .mark)) cs
+
+-- two numbers name the same cue of those that play on a day: the one among all of these cues, the other among those
 pub record SameCue (day : ℕ) (whole : List Cue) (number number′ : ℕ) : Type 0 where
   pub before : List Cue
   pub cue : Cue
@@ -184,7 +192,7 @@ pub record SameCue (day : ℕ) (whole : List Cue) (number number′ : ℕ) : Typ
 abbrev pub namesCue : ℕ → Bool
 namesCue refusal = eqb refusal 12 || eqb refusal 15
 
--- the outcome of a book with these cues is the other one, of the book in which only the playing ones stand, but for the numbers by which 12 and 15 name a cue
+-- the outcome of a book of which the role sees these cues is the other one, of the book in which only the playing ones of them stand, but for the numbers by which 12 and 15 name a cue
 pub record PlayingAlone (day : ℕ) (whole : List Cue) (o o′ : Outcome) : Type 0 where
   pub works : o .works ≡ o′ .works
   pub refusal : o .resolution .refusal ≡ o′ .resolution .refusal
@@ -197,7 +205,7 @@ pub record PlayingAlone (day : ℕ) (whole : List Cue) (o o′ : Outcome) : Type
 
 -- the call with its text folded beforehand
 abbrev pub beforehand : (ℕ → ℕ) → Call → Call
-beforehand f c = record { day = c .day; page = c .page; text = map f (c .text); copy = c .copy; scratch = c .scratch; entries = c .entries }
+beforehand f c = record { who = c .who; page = c .page; text = map f (c .text); copy = c .copy; scratch = c .scratch; entries = c .entries }
 
 -- two outcomes give the same back, and the same place for each cue, which is the first of its three entries
 pub record SamePlaces (o o′ : Outcome) : Type 0 where
@@ -208,16 +216,17 @@ pub record SamePlaces (o o′ : Outcome) : Type 0 where
   pub written : length (o .resolution .written) ≡ length (o′ .resolution .written)
   pub places : (index : ℕ) → getD (o .resolution .written) (3 * index) 0 ≡ getD (o′ .resolution .written) (3 * index) 0
 
--- each cue that plays comes out at the occurrence of its folded phrase in the folded text, the cues that do not play no part in it, and a text folded beforehand gives the same places; where the fold keeps
--- lines, it gives the same of everything
+-- each chosen cue comes out at the occurrence of its folded phrase in the folded text, the cues that are not chosen have no part in it, a guest gets the same of two books whose open cues are the same, and a text
+-- folded beforehand gives the same places; where the fold keeps lines, it gives the same of everything
 pub record Law (f : ℕ → ℕ) : Type 0 where
   pub all-out : (c : Call) (book entries : List ℕ) → length entries ≡ c .entries → let o = outcome f c (readBook book) .resolution in
-      o .refusal ≡ 0 → AllOut f (c .text) (c .day) book (received entries (o .written)) (o .number) (o .reads)
+      o .refusal ≡ 0 → AllOut f (c .text) (c .who) book (received entries (o .written)) (o .number) (o .reads)
   pub one-missing : (c : Call) (book entries : List ℕ) → length entries ≡ c .entries → let o = outcome f c (readBook book) .resolution in
-      o .refusal ≡ 12 → OneFaulty f (c .text) (c .day) (Missing f (c .text)) book (received entries (o .written)) (o .number) (o .reads)
+      o .refusal ≡ 12 → OneFaulty f (c .text) (c .who) (Missing f (c .text)) book (received entries (o .written)) (o .number) (o .reads)
   pub one-falling : (c : Call) (book entries : List ℕ) → length entries ≡ c .entries → let o = outcome f c (readBook book) .resolution in
-      o .refusal ≡ 15 → OneFaulty f (c .text) (c .day) (Falling f (c .text)) book (received entries (o .written)) (o .number) (o .reads)
+      o .refusal ≡ 15 → OneFaulty f (c .text) (c .who) (Falling f (c .text)) book (received entries (o .written)) (o .number) (o .reads)
   pub idle : (c : Call) (book : Reading) → let o = outcome f c book in Another (o .resolution .refusal) → Idle o
-  pub playing-alone : (c : Call) (whole : List Cue) → PlayingAlone (c .day) whole (outcome f c (cues whole)) (outcome f c (cues (playing (c .day) whole)))
+  pub playing-alone : (c : Call) (whole : List Cue) → PlayingAlone (c .who .day) (seen (c .who .role) whole) (outcome f c (cues whole)) (outcome f c (cues (playingFor (c .who) whole)))
+  pub secrecy : (c : Call) (one other : List Cue) → c .who .role ≡ guest → openCues one ≡ openCues other → outcome f c (cues one) ≡ outcome f c (cues other)
   pub same-places : (c : Call) (book : Reading) → SamePlaces (outcome f (beforehand f c) book) (outcome f c book)
   pub same-lines : KeepsLines f → (c : Call) (book : Reading) → outcome f (beforehand f c) book ≡ outcome f c book

@@ -1,15 +1,19 @@
 // What resolving the cues of a book comes to, as definitions and laws: which cues are chosen, where each stands, the first fault, what is written, how often the text is read, and what a call gives back.
 // `resolver` computes what is defined here; the functions of this crate make the tests of a call before its book is read, of a group and of a cue. A change to a definition or a law is checked here, in a
 // second or two.
-// It depends on `matching` for the occurrences, what of a list passes a test and the table of refusals, on `calendar` for the days that there are, on `fold` for the pages that there are, on `line_column` for the line rule, on `cue_fields` and `cues` for a cue, and on `cue_book` for what a book reads as.
+// It depends on `matching` for the occurrences, what of a list passes a test and the table of refusals, on `roles` for who may resolve, on `calendar` for the days that there are, on `fold` for the pages that there are, on `line_column` for the line rule, on `cue_fields` and `cues` for a cue, and on `cue_book` for what a book reads as.
+use cues::Choice;
 ghost use mathlib.Core.Path.{_≡_};
 ghost use Rattle.outcome.specs.Outcome.{callRefusalOf, fitting, faultOf};
 
-// The tests of the day, of the text, of the page and of the lent memory, before the book is read; 0 for none.
-pub fn refused(day: u32, page: u32, n: usize, copy: usize, scratch: usize) -> u32
-    ensures { λ r. ⌜ r ≡ callRefusalOf day page n copy scratch ⌝ }
+// The tests of the role, of the day, of the text, of the page and of the lent memory, before the book is read; 0 for none.
+pub fn refused(choice: Choice, page: u32, n: usize, copy: usize, scratch: usize) -> u32
+    ensures { λ r. ⌜ r ≡ callRefusalOf choice page n copy scratch ⌝ }
 {
-    if calendar::day_refused(day) != 0 {
+    if !roles::may_resolve(choice.role) {
+        return 19;
+    }
+    if calendar::day_refused(choice.day) != 0 {
         return 16;
     }
     if 32768 < n {

@@ -1,4 +1,4 @@
--- A group read from the book: the next cue that plays, what is known cue by cue, and where the group ends. Assumes nothing.
+-- A group read from the book: the next cue that is chosen, what is known cue by cue, and where the group ends. Assumes nothing.
 use mathlib.Core.Path.{_≡_, refl, sym, ap, ap₂, subst, _∙_}
 use Prim.Native.Nat.{ℕ, _+_, _-_, _≤_, _<_}
 use native.Mathlib.Omega.{arith}
@@ -11,14 +11,17 @@ use borrow.Author.Tests.{eqb-false}
 use Rattle.matching.specs.Received.{received}
 use Rattle.matching.proofs.Refusals.{Passed, numbersTo, all-passed}
 use Rattle.matching.proofs.Received.{received-none, received-more, received-whole}
+use Rattle.matching.proofs.Those.{those-nothing, those-next, those-skip}
 use Rattle.cue_fields.specs.declared.Due.the-variants.{Ordinal}
 use Rattle.cue_fields.specs.Field.{numberIn, fieldBody, afterField, valueTests, part}
 use Rattle.cues.specs.declared.Days.{Days}
-use Rattle.cues.specs.Cue.{Cue, daysHold, playsOn}
+use Rattle.cues.specs.declared.Mark.{Mark}
+use Rattle.cues.specs.declared.Choice.{Choice}
+use Rattle.cues.specs.Cue.{Cue, daysHold, playsOn, sees, seenBy}
 use Rattle.cues.specs.Reading.{cueRefusal, cueOf}
 use Rattle.cues.proofs.Cues.{cue-ordinal, ordinal-body, CueAt, phrase-inside}
-use Rattle.cue_book.specs.Reading.{readUpTo, cuesIn}
-use Rattle.cue_book.proofs.Books.{read-end, Left, First, left-first}
+use Rattle.cue_book.specs.Reading.{readUpTo, seen, cuesIn}
+use Rattle.cue_book.proofs.Books.{read-end, Left, First, left-first, left-same}
 use Rattle.outcome.specs.Outcome.{Numbered, chosenFrom, cuesOf, letters, fitting, fits}
 use Rattle.outcome.proofs.Choosing.{chosen-none, chosen-plays, chosen-not}
 use Rattle.outcome.proofs.Grouping.{fitting-most, fitting-when, fit-when, letters-more}
@@ -27,15 +30,15 @@ use Rattle.resolver.specs.Walking.{restAt, chosenAt, CuesLeft, Remaining
 
 -- ---- the cues that are left
 
-pub left-of : {day : ℕ} {book : List ℕ} {number place : ℕ} {xs : List Numbered} → CuesLeft day book number place xs → Left book number place (restAt book number place)
-left-of {day} {book} {number} l = record { more = 999 - number; count = omega (arith, l .few); reads = l .reads }
+pub left-of : {who : Choice} {book : List ℕ} {number place : ℕ} {xs : List Numbered} → CuesLeft who book number place xs → Left book number place (restAt book number place)
+left-of {who} {book} {number} l = record { more = 999 - number; count = omega (arith, l .few); reads = l .reads }
 
-pub cues-left : {book : List ℕ} {number place : ℕ} {rest : List Cue} (day : ℕ) → Left book number place rest → CuesLeft day book number place (chosenFrom day number rest)
-cues-left {book} {number} {place} day l =
+pub cues-left : {book : List ℕ} {number place : ℕ} {rest : List Cue} (who : Choice) → Left book number place rest → CuesLeft who book number place (chosenFrom (who .day) number (seen (who .role) rest))
+cues-left {book} {number} {place} who l =
     let more : 999 - number ≡ l .more = omega (arith, l .count) in
     let reads = ap (λ (n : ℕ). readUpTo n number (drop place book)) more ∙ l .reads in
     let is = ap cuesIn reads in
-    record { few = omega (arith, l .count); reads = rw is reads; are = ap (chosenFrom day number) is }
+    record { few = omega (arith, l .count); reads = rw is reads; are = ap (λ (cs : List Cue). chosenFrom (who .day) number (seen (who .role) cs)) is }
 
 -- ---- a cue, as it stands in the book
 
@@ -61,11 +64,12 @@ module _
     {book : List ℕ}
     {number place phrase phrase-end ordinal title title-end end : ℕ}
     {days : Days}
+    {mark : Mark}
     {rest : List Cue}
     (n : Next book number place rest)
-    (c : CueAt book place phrase phrase-end ordinal title title-end days end)
+    (c : CueAt book place phrase phrase-end ordinal title title-end days mark end)
   where
-    -- its phrase, the phrase's length, its ordinal and its days are those that were read
+    -- its phrase, the phrase's length, its ordinal, its days and its mark are those that were read
     phrase-read : part book phrase phrase-end ≡ n .cue .phrase
     phrase-read = ap (λ (x : Cue). x .phrase) (c .meant ∙ n .begun .cue)
 
@@ -74,6 +78,9 @@ module _
 
     days-read : (day : ℕ) → daysHold day days ≡ playsOn day (n .cue)
     days-read day = ap (λ (x : Cue). playsOn day x) (c .meant ∙ n .begun .cue)
+
+    mark-read : (role : ℕ) → sees role mark ≡ seenBy role (n .cue)
+    mark-read role = ap (λ (x : Cue). seenBy role x) (c .meant ∙ n .begun .cue)
 
     length-read : phrase-end - phrase ≡ length (n .cue .phrase)
     length-read =
@@ -92,25 +99,25 @@ module _
           named = subst (λ (x : Cue). 1 ≤ x .ordinal) (n .begun .cue) (ordinal-some (drop place book) (c .none));
         }
 
--- ---- on to the next cue that plays
+-- ---- on to the next cue that is chosen
 
--- so far none did: those left at a place are those left where it began
-pub record Skips (day : ℕ) (book : List ℕ) (number place index at : ℕ) : Type 0 where
+-- so far none was: those left at a place are those left where it began, and the next that the role sees has that number
+pub record Skips (who : Choice) (book : List ℕ) (number place index at : ℕ) : Type 0 where
   pub rest : List Cue
   pub left : Left book index at rest
-  pub same : chosenAt day book number place ≡ chosenFrom day index rest
+  pub same : chosenAt who book number place ≡ chosenFrom (who .day) index (seen (who .role) rest)
   pub passed : number ≤ index
 
-pub skips-none : {day : ℕ} {book : List ℕ} {number place : ℕ} → Remaining day book number place → Skips day book number place number place
-skips-none {day} {book} {number} {place} r = record { rest = restAt book number place; left = left-of (r .left); same = refl; passed = omega arith }
+pub skips-none : {who : Choice} {book : List ℕ} {number place : ℕ} → Remaining who book number place → Skips who book number place number place
+skips-none {who} {book} {number} {place} r = record { rest = restAt book number place; left = left-of (r .left); same = refl; passed = omega arith }
 
-module _ {day : ℕ} {book : List ℕ} {number place index at : ℕ} (r : Remaining day book number place) (s : Skips day book number place index at) where
+module _ {who : Choice} {book : List ℕ} {number place index at : ℕ} (r : Remaining who book number place) (s : Skips who book number place index at) where
   -- a cue is left
   rest-some : 1 ≤ length (s .rest)
   rest-some = some (s .rest) (s .same)
     where
-      some : (rest : List Cue) → chosenAt day book number place ≡ chosenFrom day index rest → 1 ≤ length rest
-      some [] e = absurd (omega (arith, r .some, ap length (e ∙ chosen-none day index)))
+      some : (rest : List Cue) → chosenAt who book number place ≡ chosenFrom (who .day) index (seen (who .role) rest) → 1 ≤ length rest
+      some [] e = absurd (omega (arith, r .some, ap length (e ∙ ap (chosenFrom (who .day) index) (those-nothing (seenBy (who .role))) ∙ chosen-none (who .day) index)))
       some (c ∷ cs) e = omega arith
 
   pub skips-next : Next book index at (s .rest)
@@ -126,50 +133,70 @@ module _ {day : ℕ} {book : List ℕ} {number place index at : ℕ} (r : Remain
   pub skips-few : index < 999
   skips-few = omega (arith, skips-next .begun .then refl .count)
 
-  module _ {phrase phrase-end ordinal title title-end end : ℕ} {days : Days} (c : CueAt book at phrase phrase-end ordinal title title-end days end) where
-    -- this one does not play
-    pub skips-more : daysHold day days ≡ false → Skips day book number place (index + 1) end
-    skips-more e =
-        let n = skips-next in
+  module _ {phrase phrase-end ordinal title title-end end : ℕ} {days : Days} {mark : Mark} (c : CueAt book at phrase phrase-end ordinal title title-end days mark end) where
+    abbrev next : Next book index at (s .rest)
+    next = skips-next
+
+    -- the role does not see this one, so that it has no number
+    pub skips-unseen : sees (who .role) mark ≡ false → Skips who book number place index end
+    skips-unseen e =
         record {
-          rest = n .later;
-          left = n .begun .then (c .end-is);
-          same = s .same ∙ ap (chosenFrom day index) (n .is) ∙ chosen-not day index (n .cue) (n .later) (sym (days-read n c day) ∙ e) ∙ ap (λ (k : ℕ). chosenFrom day k (n .later)) (sym (add-one index));
-          passed = omega (arith, s .passed);
+          rest = next .later;
+          left = left-same (next .begun .then (c .end-is));
+          same = s .same ∙ ap (chosenFrom (who .day) index) (ap (seen (who .role)) (next .is) ∙ those-skip (seenBy (who .role)) (next .cue) (next .later) (sym (mark-read next c (who .role)) ∙ e));
+          passed = s .passed;
         }
 
-    -- it does
-    pub skips-end : daysHold day days ≡ true
-        → NextRead day book number place (record { number = index; phrase = phrase; «phrase_end» = phrase-end; ordinal = ordinal; end = end })
-    unfolding held-here
-    skips-end e =
-        let n = skips-next in
-        let i = phrase-inside c in
-        record {
-          held = held-here n c;
-          later = chosenFrom day (index + 1) (n .later);
-          split =
-              s .same ∙ ap (chosenFrom day index) (n .is) ∙ chosen-plays day index (n .cue) (n .later) (sym (days-read n c day) ∙ e)
-              ∙ ap (λ (k : ℕ). record { number = index; cue = n .cue } ∷ chosenFrom day k (n .later)) (sym (add-one index));
-          start = refl;
-          stop = omega (arith, length-read n c, i .ordered);
-          short = omega (arith, length-read n c, i .short);
-          ordinal = ordinal-read n c;
-          passed = s .passed;
-          left = cues-left day (n .begun .then (c .end-is));
-        }
+    module _ (seen-here : sees (who .role) mark ≡ true) where
+      -- the role sees it, and then the others
+      first-seen : chosenAt who book number place ≡ chosenFrom (who .day) index (next .cue ∷ seen (who .role) (next .later))
+      first-seen =
+          s .same
+          ∙ ap (chosenFrom (who .day) index) (ap (seen (who .role)) (next .is) ∙ those-next (seenBy (who .role)) (next .cue) (next .later) (sym (mark-read next c (who .role)) ∙ seen-here))
+
+      -- it does not play
+      pub skips-more : daysHold (who .day) days ≡ false → Skips who book number place (index + 1) end
+      skips-more e =
+          record {
+            rest = next .later;
+            left = next .begun .then (c .end-is);
+            same =
+                first-seen ∙ chosen-not (who .day) index (next .cue) (seen (who .role) (next .later)) (sym (days-read next c (who .day)) ∙ e)
+                ∙ ap (λ (k : ℕ). chosenFrom (who .day) k (seen (who .role) (next .later))) (sym (add-one index));
+            passed = omega (arith, s .passed);
+          }
+
+      -- it does
+      pub skips-end : daysHold (who .day) days ≡ true
+          → NextRead who book number place (record { number = index; phrase = phrase; «phrase_end» = phrase-end; ordinal = ordinal; end = end })
+      unfolding held-here
+      skips-end e =
+          let i = phrase-inside c in
+          record {
+            held = held-here next c;
+            later = chosenFrom (who .day) (index + 1) (seen (who .role) (next .later));
+            split =
+                first-seen ∙ chosen-plays (who .day) index (next .cue) (seen (who .role) (next .later)) (sym (days-read next c (who .day)) ∙ e)
+                ∙ ap (λ (k : ℕ). record { number = index; cue = next .cue } ∷ chosenFrom (who .day) k (seen (who .role) (next .later))) (sym (add-one index));
+            start = refl;
+            stop = omega (arith, length-read next c, i .ordered);
+            short = omega (arith, length-read next c, i .short);
+            ordinal = ordinal-read next c;
+            passed = s .passed;
+            left = cues-left who (next .begun .then (c .end-is));
+          }
 
 -- ---- along the group
 
-pub record Gathers (day : ℕ) (book : List ℕ) (number place : ℕ) (starts₀ lens₀ ordinals₀ numbers₀ : List ℕ) (count sum next end : ℕ) (starts lens ordinals numbers : List ℕ) : Type 0 where
+pub record Gathers (who : Choice) (book : List ℕ) (number place : ℕ) (starts₀ lens₀ ordinals₀ numbers₀ : List ℕ) (count sum next end : ℕ) (starts lens ordinals numbers : List ℕ) : Type 0 where
   pub items : List Numbered
   pub held : List (Held book)
   pub cues : cuesOf items ≡ cuesHeld held
   pub later : List Numbered
-  pub split : chosenAt day book number place ≡ items ++ later
+  pub split : chosenAt who book number place ≡ items ++ later
   pub counted : count ≡ length items
   pub passed : number + count ≤ next
-  pub left : CuesLeft day book next end later
+  pub left : CuesLeft who book next end later
   pub summed : sum ≡ letters (cuesOf items)
   pub few : count ≤ 64
   pub short : sum ≤ 4096
@@ -178,15 +205,15 @@ pub record Gathers (day : ℕ) (book : List ℕ) (number place : ℕ) (starts₀
   pub ordinals-are : ordinals ≡ received ordinals₀ (ordinalsOf held)
   pub numbers-are : numbers ≡ received numbers₀ (numbersOf items)
 
-pub gathers-none : {day : ℕ} {book : List ℕ} {number place : ℕ} {starts lens ordinals numbers : List ℕ} → Remaining day book number place
-    → Gathers day book number place starts lens ordinals numbers 0 0 number place starts lens ordinals numbers
+pub gathers-none : {who : Choice} {book : List ℕ} {number place : ℕ} {starts lens ordinals numbers : List ℕ} → Remaining who book number place
+    → Gathers who book number place starts lens ordinals numbers 0 0 number place starts lens ordinals numbers
 unfolding letters
-gathers-none {day} {book} {number} {place} {starts} {lens} {ordinals} {numbers} r =
+gathers-none {who} {book} {number} {place} {starts} {lens} {ordinals} {numbers} r =
     record {
       items = [];
       held = [];
       cues = refl;
-      later = chosenAt day book number place;
+      later = chosenAt who book number place;
       split = refl;
       counted = refl;
       passed = omega arith;
@@ -204,8 +231,8 @@ gathers-none {day} {book} {number} {place} {starts} {lens} {ordinals} {numbers} 
 put-more : (list values : List ℕ) (k x : ℕ) → k ≡ length values → set (received list values) k x ≡ received list (values ++ x ∷ [])
 put-more list values k x e = ap (λ (i : ℕ). set (received list values) i x) e ∙ received-more list values x
 
-module _ {day : ℕ} {book : List ℕ} {number place : ℕ} {starts₀ lens₀ ordinals₀ numbers₀ : List ℕ} {count sum next end : ℕ} {starts lens ordinals numbers : List ℕ} (g : Gathers day book number place starts₀ lens₀ ordinals₀ numbers₀ count sum next end starts lens ordinals numbers) where
-  all-left : length (chosenAt day book number place) ≡ count + length (g .later)
+module _ {who : Choice} {book : List ℕ} {number place : ℕ} {starts₀ lens₀ ordinals₀ numbers₀ : List ℕ} {count sum next end : ℕ} {starts lens ordinals numbers : List ℕ} (g : Gathers who book number place starts₀ lens₀ ordinals₀ numbers₀ count sum next end starts lens ordinals numbers) where
+  all-left : length (chosenAt who book number place) ≡ count + length (g .later)
   all-left = ap length (g .split) ∙ length-append (g .items) (g .later) ∙ omega (arith, g .counted)
 
   -- as many are held
@@ -215,12 +242,12 @@ module _ {day : ℕ} {book : List ℕ} {number place : ℕ} {starts₀ lens₀ o
       (arith, g .counted, ap length (g .cues), length-map (g .items) (λ (x : Numbered). x .cue), length-map (g .held) (λ (h : Held book). h .cue))
 
   -- a cue is left
-  pub gathers-cue : count < length (chosenAt day book number place) → Remaining day book next end
+  pub gathers-cue : count < length (chosenAt who book number place) → Remaining who book next end
   gathers-cue h = record { left = record { few = g .left .few; reads = g .left .reads; are = refl }; some = omega (arith, all-left, ap length (g .left .are)) }
 
   -- where it ends: the arrays' first entries are the group's
   ended : 1 ≤ count → (1 ≤ length (cuesOf (g .later)) → fits (cuesOf (g .items) ++ take 1 (cuesOf (g .later))) ≡ false) → 64 ≤ length starts₀ → 64 ≤ length lens₀ → 64 ≤ length ordinals₀ → 64 ≤ length numbers₀
-      → Gathered day book number place (record { count = count; number = next; end = end }) starts lens ordinals numbers
+      → Gathered who book number place (record { count = count; number = next; end = end }) starts lens ordinals numbers
   ended some closed s l o m =
       let hs : List (Held book) = g .held in
       let size : length (cuesOf (g .items)) ≡ count = length-map (g .items) (λ (x : Numbered). x .cue) ∙ sym (g .counted) in
@@ -246,9 +273,9 @@ module _ {day : ℕ} {book : List ℕ} {number place : ℕ} {starts₀ lens₀ o
       front : {list : List ℕ} (list₀ values : List ℕ) → list ≡ received list₀ values → length values ≡ count → 64 ≤ length list₀ → take count list ≡ values
       front {list} list₀ values e size room = ap₂ (λ (k : ℕ) (l : List ℕ). take k l) (sym size) e ∙ received-whole list₀ values (omega (arith, size, g .few, room))
 
-  module _ {rest : ℕ} (lent : Gatherable day book number rest place starts₀ lens₀ ordinals₀ numbers₀) where
+  module _ {rest : ℕ} (lent : Gatherable who book number rest place starts₀ lens₀ ordinals₀ numbers₀) where
     -- no cue is left
-    pub gathered-all : rest ≤ count → Gathered day book number place (record { count = count; number = next; end = end }) starts lens ordinals numbers
+    pub gathered-all : rest ≤ count → Gathered who book number place (record { count = count; number = next; end = end }) starts lens ordinals numbers
     gathered-all all =
         ended
         (omega (arith, all, lent .remaining .some, lent .rest-are))
@@ -258,7 +285,7 @@ module _ {day : ℕ} {book : List ℕ} {number place : ℕ} {starts₀ lens₀ o
         (lent .ordinals-room)
         (lent .numbers-room)
 
-    module _ {r : NextCue} (n : NextRead day book next end r) where
+    module _ {r : NextCue} (n : NextRead who book next end r) where
       -- the cue is the first of those left
       abbrev this : Numbered
       this = record { number = r .number; cue = n .held .cue }
@@ -270,7 +297,7 @@ module _ {day : ℕ} {book : List ℕ} {number place : ℕ} {starts₀ lens₀ o
       len-is = omega (arith, n .stop)
 
       -- it does not fit
-      pub gathered-full : fitting (count + 1) (sum + (r .«phrase_end» - r .phrase)) ≡ false → Gathered day book number place (record { count = count; number = next; end = end }) starts lens ordinals numbers
+      pub gathered-full : fitting (count + 1) (sum + (r .«phrase_end» - r .phrase)) ≡ false → Gathered who book number place (record { count = count; number = next; end = end }) starts lens ordinals numbers
       unfolding letters
       gathered-full full =
           let group : List Cue = cuesOf (g .items) ++ take 1 (cuesOf (g .later)) in
@@ -289,7 +316,7 @@ module _ {day : ℕ} {book : List ℕ} {number place : ℕ} {starts₀ lens₀ o
 
       -- it is gathered
       pub gathers-next : {sum′ : ℕ} → sum′ ≡ sum + (r .«phrase_end» - r .phrase) → fitting (count + 1) sum′ ≡ true
-          → Gathers day book number place starts₀ lens₀ ordinals₀ numbers₀ (count + 1) sum′ (r .number + 1) (r .end) (set starts count (r .phrase)) (set lens count (r .«phrase_end» - r .phrase)) (set ordinals count (r .ordinal)) (set numbers count (r .number))
+          → Gathers who book number place starts₀ lens₀ ordinals₀ numbers₀ (count + 1) sum′ (r .number + 1) (r .end) (set starts count (r .phrase)) (set lens count (r .«phrase_end» - r .phrase)) (set ordinals count (r .ordinal)) (set numbers count (r .number))
       unfolding letters
       gathers-next {sum′} e h =
           let xs : List Numbered = g .items in

@@ -16,6 +16,7 @@ use Rattle.phrases.specs.Phrases.{phrasesIn}
 use Rattle.automaton.specs.declared.Walked.{Walked}
 use Rattle.automaton.specs.Locate.{Accepted, Located, Answered}
 use Rattle.automaton.proofs.Locating as locating
+use Rattle.cues.specs.declared.Choice.{Choice}
 use Rattle.cues.specs.Cue.{Cue}
 use Rattle.outcome.specs.Outcome.{letters, Numbered, cuesOf, cueOccurrences, isThere, placeOf, faultOf, placeBefore, cueFault, judge}
 use Rattle.outcome.proofs.Judging.{none-there, last-more, judge-on, judge-stop, judge-end}
@@ -63,7 +64,7 @@ at-seam : {A : Type 0} (g : Cue → A) (before : List Cue) (c : Cue) (later : Li
 at-seam g [] c later d = refl
 at-seam g (b ∷ before) c later d = at-seam g before c later d
 
-module _ {day page : ℕ} {book : List ℕ} {number rest place : ℕ} {copy scratch left₀ places₀ numbers₀ : List ℕ} (lent : Searchable day page book number rest place copy scratch left₀ places₀ numbers₀) {r : CuesRead} {starts lens left numbers : List ℕ} (g : Gathered day book number place r starts lens left numbers) where
+module _ {who : Choice} {page : ℕ} {book : List ℕ} {number rest place : ℕ} {copy scratch left₀ places₀ numbers₀ : List ℕ} (lent : Searchable who page book number rest place copy scratch left₀ places₀ numbers₀) {r : CuesRead} {starts lens left numbers : List ℕ} (g : Gathered who book number place r starts lens left numbers) where
   abbrev hs : List (Held book)
   hs = g .held
 
@@ -156,7 +157,7 @@ module _ {day page : ℕ} {book : List ℕ} {number rest place : ℕ} {copy scra
             )
 
     -- it stands at the front of the arrays
-    pub searched : (more more₂ : List ℕ) → Searched day page book number place copy scratch (record { count = r .count; number = r .number; end = r .end; reads = w .reads }) scratch′ (left′ ++ more) (places′ ++ more₂) numbers
+    pub searched : (more more₂ : List ℕ) → Searched who page book number place copy scratch (record { count = r .count; number = r .number; end = r .end; reads = w .reads }) scratch′ (left′ ++ more) (places′ ++ more₂) numbers
     searched more more₂ =
         let front = held left-size more in
         let front₂ = held places-size more₂ in

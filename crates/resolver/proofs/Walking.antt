@@ -12,6 +12,7 @@ use Rattle.matching.specs.Received.{received, receivedFrom}
 use Rattle.matching.proofs.CaseAnalysis.{by-test}
 use Rattle.matching.proofs.Received.{received-none, received-on}
 use Rattle.fold.specs.Fold.{foldOn}
+use Rattle.cues.specs.declared.Choice.{Choice}
 use Rattle.cues.specs.Cue.{Cue}
 use Rattle.line_column.specs.LineColumn.{lastOf}
 use Rattle.cue_book.specs.Reading.{cues, readBook, cuesIn}
@@ -30,18 +31,18 @@ use Rattle.resolver.proofs.Putting.{passing-count}
 
 -- ---- a group, from what was found and what was put
 
-module _ {day : ℕ} {book : List ℕ} {number place count next end : ℕ} (n : NextGroup day book number place count next end) where
+module _ {who : Choice} {book : List ℕ} {number place count next end : ℕ} (n : NextGroup who book number place count next end) where
   pub group-size : length (cuesOf (n .group)) ≡ count
   group-size = length-map (n .group) (λ (x : Numbered). x .cue) ∙ sym (n .counted)
 
   pub few-next : count ≤ 64
   few-next = omega (arith, group-size, fit-few (cuesOf (n .group)) (n .grouped .fit))
 
-pub grouped : {day page : ℕ} {book : List ℕ} {number index place : ℕ} {text copy scratch : List ℕ} {r : GroupFound} {scratch′ left places numbers entries : List ℕ} {known faulty : ℕ} {p : EntriesPut} {entries′ : List ℕ}
-    → Searched day page book number place copy scratch r scratch′ left places numbers → copy ≡ map (foldOn page) text → Put text index (take (r .count) left) (take (r .count) places) known entries p entries′
+pub grouped : {who : Choice} {page : ℕ} {book : List ℕ} {number index place : ℕ} {text copy scratch : List ℕ} {r : GroupFound} {scratch′ left places numbers entries : List ℕ} {known faulty : ℕ} {p : EntriesPut} {entries′ : List ℕ}
+    → Searched who page book number place copy scratch r scratch′ left places numbers → copy ≡ map (foldOn page) text → Put text index (take (r .count) left) (take (r .count) places) known entries p entries′
     → faulty ≡ getD (take (r .count) numbers) (p .count) 0
-    → Grouped day page book number index place text scratch entries known (record { next = r .number; end = r .end; reads = r .reads; refusal = p .refusal; number = faulty; put = p .count; known = p .known; spot = p .spot }) scratch′ entries′
-grouped {day} {page} {book} {number} {index} {place} {text} {copy} {scratch} {r} {scratch′} {left} {places} {numbers} {entries} {known} {faulty} {p} s e put names =
+    → Grouped who page book number index place text scratch entries known (record { next = r .number; end = r .end; reads = r .reads; refusal = p .refusal; number = faulty; put = p .count; known = p .known; spot = p .spot }) scratch′ entries′
+grouped {who} {page} {book} {number} {index} {place} {text} {copy} {scratch} {r} {scratch′} {left} {places} {numbers} {entries} {known} {faulty} {p} s e put names =
     let f : ℕ → ℕ = foldOn page in
     let lefts : List ℕ = take (r .count) left in
     let stands : List ℕ = take (r .count) places in
@@ -68,13 +69,13 @@ grouped {day} {page} {book} {number} {index} {place} {text} {copy} {scratch} {r}
 
 -- ---- along the walk: the groups so far are walked and their entries put, and they and what the rest is judged are the whole
 
-pub record Along (day page : ℕ) (book text : List ℕ) (xs : List Numbered) (entries₀ : List ℕ) (number index place reads known : ℕ) (entries : List ℕ) : Type 0 where
+pub record Along (who : Choice) (page : ℕ) (book text : List ℕ) (xs : List Numbered) (entries₀ : List ℕ) (number index place reads known : ℕ) (entries : List ℕ) : Type 0 where
   pub done : List Numbered
   pub rest : List Numbered
   pub all : xs ≡ done ++ rest
   pub counted : index ≡ length done
   pub behind : index ≤ number
-  pub left : CuesLeft day book number place rest
+  pub left : CuesLeft who book number place rest
   pub full : List (List Cue)
   pub walked : Walked full (cuesOf done) (cuesOf rest)
   pub found : List ℕ
@@ -84,18 +85,18 @@ pub record Along (day page : ℕ) (book text : List ℕ) (xs : List Numbered) (e
   pub whole : judge (foldOn page) text [] xs ≡ judge (foldOn page) text found rest
   pub reads-are : reads ≡ length text * length full
 
-pub along-first : (day page : ℕ) (book text : List ℕ) (entries : List ℕ) {cs : List Cue} → readBook book ≡ cues cs → Along day page book text (chosen day cs) entries 0 0 0 0 0 entries
+pub along-first : (who : Choice) (page : ℕ) (book text : List ℕ) (entries : List ℕ) {cs : List Cue} → readBook book ≡ cues cs → Along who page book text (chosen who cs) entries 0 0 0 0 0 entries
 unfolding entriesOf
-along-first day page book text entries {cs} e =
+along-first who page book text entries {cs} e =
     record {
       done = [];
-      rest = chosen day cs;
+      rest = chosen who cs;
       all = refl;
       counted = refl;
       behind = omega arith;
-      left = cues-left day (left-all e);
+      left = cues-left who (left-all e);
       full = [];
-      walked = walked-none (cuesOf (chosen day cs));
+      walked = walked-none (cuesOf (chosen who cs));
       found = [];
       placed = refl;
       last = refl;
@@ -106,13 +107,13 @@ along-first day page book text entries {cs} e =
 
 -- ---- the walk's answer
 
-pub placed : {day page : ℕ} {book text scratch entries scratch′ entries′ places : List ℕ} {number index reads : ℕ}
-    → judge (foldOn page) text [] (chosen day (cuesIn (readBook book))) ≡ record { refusal = number; number = index; places = places }
-    → readsOf text (record { refusal = number; number = index; places = places }) (cuesOf (chosen day (cuesIn (readBook book)))) ≡ reads
-    → scratch′ ≡ replicate (length scratch) 0 → entries′ ≡ received entries (entriesOf text places) → Placed day page book text scratch entries (record { refusal = number; number = index; reads = reads }) scratch′ entries′
+pub placed : {who : Choice} {page : ℕ} {book text scratch entries scratch′ entries′ places : List ℕ} {number index reads : ℕ}
+    → judge (foldOn page) text [] (chosen who (cuesIn (readBook book))) ≡ record { refusal = number; number = index; places = places }
+    → readsOf text (record { refusal = number; number = index; places = places }) (cuesOf (chosen who (cuesIn (readBook book)))) ≡ reads
+    → scratch′ ≡ replicate (length scratch) 0 → entries′ ≡ received entries (entriesOf text places) → Placed who page book text scratch entries (record { refusal = number; number = index; reads = reads }) scratch′ entries′
 unfolding resolution
-placed {day} {page} {book} {text} {scratch} {entries} {scratch′} {entries′} {places} {number} {index} {reads} e n s w =
-    let xs : List Numbered = chosen day (cuesIn (readBook book)) in
+placed {who} {page} {book} {text} {scratch} {entries} {scratch′} {entries′} {places} {number} {index} {reads} e n s w =
+    let xs : List Numbered = chosen who (cuesIn (readBook book)) in
     let total : readsOf text (judge (foldOn page) text [] xs) (cuesOf xs) ≡ reads = ap (λ (j : Judged). readsOf text j (cuesOf xs)) e ∙ n in
     record {
       answer = ap₂ (λ (j : Judged) (k : ℕ). record { refusal = j .refusal; number = j .number; reads = k }) (sym e) (sym total);
@@ -124,7 +125,7 @@ placed {day} {page} {book} {text} {scratch} {entries} {scratch′} {entries′} 
 cues-append : (xs ys : List Numbered) → cuesOf (xs ++ ys) ≡ cuesOf xs ++ cuesOf ys
 cues-append xs ys = map-append (λ (x : Numbered). x .cue) xs ys
 
-module _ {day page : ℕ} {book text : List ℕ} {xs : List Numbered} {entries₀ : List ℕ} {number index place reads known : ℕ} {entries : List ℕ} (d : Along day page book text xs entries₀ number index place reads known entries) where
+module _ {who : Choice} {page : ℕ} {book text : List ℕ} {xs : List Numbered} {entries₀ : List ℕ} {number index place reads known : ℕ} {entries : List ℕ} (d : Along who page book text xs entries₀ number index place reads known entries) where
   abbrev f : ℕ → ℕ
   f = foldOn page
 
@@ -135,10 +136,10 @@ module _ {day page : ℕ} {book text : List ℕ} {xs : List Numbered} {entries�
   cues-done = length-map (d .done) (λ (x : Numbered). x .cue) ∙ sym (d .counted)
 
   -- a cue is left, and how many
-  pub along-rest : index < length xs → Remaining day book number place
+  pub along-rest : index < length xs → Remaining who book number place
   along-rest h = record { left = record { few = d .left .few; reads = d .left .reads; are = refl }; some = omega (arith, size, h, ap length (d .left .are)) }
 
-  pub along-left : {rest : ℕ} → rest ≡ length xs - index → rest ≡ length (chosenAt day book number place)
+  pub along-left : {rest : ℕ} → rest ≡ length xs - index → rest ≡ length (chosenAt who book number place)
   along-left e = omega (arith, e, size, ap length (d .left .are))
 
   -- the reads are few: no more groups than cues
@@ -148,8 +149,8 @@ module _ {day page : ℕ} {book text : List ℕ} {xs : List Numbered} {entries�
       omega (arith, d .reads-are, mul-le-mul-left {m = length (d .full)} {n = 999} (length text) groups)
 
   -- no cue is left
-  pub along-end : {scratch scratch′ : List ℕ} → xs ≡ chosen day (cuesIn (readBook book)) → length xs ≤ index → scratch′ ≡ replicate (length scratch) 0
-      → Placed day page book text scratch entries₀ (record { refusal = 0; number = index; reads = reads }) scratch′ entries
+  pub along-end : {scratch scratch′ : List ℕ} → xs ≡ chosen who (cuesIn (readBook book)) → length xs ≤ index → scratch′ ≡ replicate (length scratch) 0
+      → Placed who page book text scratch entries₀ (record { refusal = 0; number = index; reads = reads }) scratch′ entries
   along-end {scratch} is h s =
       let none : d .rest ≡ [] = empty (d .rest) (omega (arith, size, h)) in
       let done : xs ≡ d .done = d .all ∙ ap (λ (l : List Numbered). d .done ++ l) none ∙ append-nil (d .done) in
@@ -166,7 +167,7 @@ module _ {day page : ℕ} {book text : List ℕ} {xs : List Numbered} {entries�
 
   -- ---- the next group
 
-  module _ {scratch scratch′ entries′ : List ℕ} {r : GroupResolved} (g : Grouped day page book number index place text scratch entries known r scratch′ entries′) where
+  module _ {scratch scratch′ entries′ : List ℕ} {r : GroupResolved} (g : Grouped who page book number index place text scratch entries known r scratch′ entries′) where
     abbrev group : List Numbered
     group = g .next .group
 
@@ -216,7 +217,7 @@ module _ {day page : ℕ} {book text : List ℕ} {xs : List Numbered} {entries�
     reads-more = omega (arith, d .reads-are, g .reads, mul-add (length text) (length (d .full)) 1)
 
     -- no cue of it has a fault
-    pub along-next : r .refusal ≡ 0 → Along day page book text xs entries₀ (r .next) (index + r .put) (r .end) (reads + r .reads) (r .known) entries′
+    pub along-next : r .refusal ≡ 0 → Along who page book text xs entries₀ (r .next) (index + r .put) (r .end) (reads + r .reads) (r .known) entries′
     along-next z =
         let put : r .put ≡ length group = g .whole z ∙ g .next .counted in
         let none : judge f text (d .found) group .refusal ≡ 0 = ap (λ (j : Judged). j .refusal) group-judged ∙ z in
@@ -238,8 +239,8 @@ module _ {day page : ℕ} {book text : List ℕ} {xs : List Numbered} {entries�
         }
 
     -- one has
-    pub along-stop : xs ≡ chosen day (cuesIn (readBook book)) → (r .refusal ≡ 0 → ⊥) → {scratch₀ : List ℕ} → scratch′ ≡ replicate (length scratch₀) 0
-        → Placed day page book text scratch₀ entries₀ (record { refusal = r .refusal; number = r .number; reads = reads + r .reads }) scratch′ entries′
+    pub along-stop : xs ≡ chosen who (cuesIn (readBook book)) → (r .refusal ≡ 0 → ⊥) → {scratch₀ : List ℕ} → scratch′ ≡ replicate (length scratch₀) 0
+        → Placed who page book text scratch₀ entries₀ (record { refusal = r .refusal; number = r .number; reads = reads + r .reads }) scratch′ entries′
     along-stop is some {scratch₀} s =
         let j : Judged = record { refusal = r .refusal; number = r .number; places = d .found ++ g .places } in
         let fault : judge f text (d .found) group .refusal ≡ 0 → ⊥ = λ z. some (sym (ap (λ (j : Judged). j .refusal) group-judged) ∙ z) in

@@ -7,8 +7,9 @@ use lib.ListN.{length, getD, take, drop, replicate}
 use lib.Dec.{eqb}
 use Rattle.matching.specs.Received.{received, receivedFrom}
 use Rattle.fold.specs.Fold.{isPage, foldOn}
+use Rattle.cues.specs.declared.Choice.{Choice}
 use Rattle.cues.specs.Cue.{Cue}
-use Rattle.cue_book.specs.Reading.{cues, readUpTo, readBook, playing, cuesIn}
+use Rattle.cue_book.specs.Reading.{cues, readUpTo, readBook, seen, playingFor, cuesIn}
 use Rattle.line_column.specs.declared.LineColumn.{LineColumn}
 use Rattle.line_column.specs.LineColumn.{lastOf, lineColumn}
 use Rattle.outcome.specs.Outcome.{Numbered, chosenFrom, chosen, cuesOf, isThere, placeOf, faultOf, placeBefore, judge, entriesOf, Resolution, resolution}
@@ -23,33 +24,33 @@ use Rattle.resolver.specs.declared.GroupResolved.{GroupResolved}
 
 -- ---- where a walk stands in the book
 
--- the cues that are left at a place, where the cue with that index in the book begins; and those of them that play on a day
+-- the cues that are left at a place, and those of them that are chosen, where the first that the role sees has that number
 abbrev pub restAt : List ℕ → ℕ → ℕ → List Cue
 restAt book number place = cuesIn (readUpTo (999 - number) number (drop place book))
 
-abbrev pub chosenAt : ℕ → List ℕ → ℕ → ℕ → List Numbered
-chosenAt day book number place = chosenFrom day number (restAt book number place)
+abbrev pub chosenAt : Choice → List ℕ → ℕ → ℕ → List Numbered
+chosenAt who book number place = chosenFrom (who .day) number (seen (who .role) (restAt book number place))
 
--- the book was read, and of the cues left at a place these play
-pub record CuesLeft (day : ℕ) (book : List ℕ) (number place : ℕ) (xs : List Numbered) : Type 0 where
+-- the book was read, and of the cues left at a place these are chosen
+pub record CuesLeft (who : Choice) (book : List ℕ) (number place : ℕ) (xs : List Numbered) : Type 0 where
   pub few : number ≤ 999
   pub reads : readUpTo (999 - number) number (drop place book) ≡ cues (restAt book number place)
-  pub are : chosenAt day book number place ≡ xs
+  pub are : chosenAt who book number place ≡ xs
 
--- at least one does
-pub record Remaining (day : ℕ) (book : List ℕ) (number place : ℕ) : Type 0 where
-  pub left : CuesLeft day book number place (chosenAt day book number place)
-  pub some : 1 ≤ length (chosenAt day book number place)
+-- at least one is
+pub record Remaining (who : Choice) (book : List ℕ) (number place : ℕ) : Type 0 where
+  pub left : CuesLeft who book number place (chosenAt who book number place)
+  pub some : 1 ≤ length (chosenAt who book number place)
 
--- the next group: so many cues, the index of the cue after them, and its place
-pub record NextGroup (day : ℕ) (book : List ℕ) (number place count next end : ℕ) : Type 0 where
+-- the next group: so many cues, the number of the next that the role sees, and the place after them
+pub record NextGroup (who : Choice) (book : List ℕ) (number place count next end : ℕ) : Type 0 where
   pub group : List Numbered
   pub later : List Numbered
-  pub split : chosenAt day book number place ≡ group ++ later
+  pub split : chosenAt who book number place ≡ group ++ later
   pub grouped : Group (cuesOf group) (cuesOf later)
   pub counted : count ≡ length group
   pub passed : number + count ≤ next
-  pub left : CuesLeft day book next end later
+  pub left : CuesLeft who book next end later
 
 -- ---- the next group's cues, as they stand in the book
 
@@ -74,34 +75,34 @@ module _ {book : List ℕ} where
   abbrev pub ordinalsOf : List (Held book) → List ℕ
   ordinalsOf hs = map (λ h. h .cue .ordinal) hs
 
--- the indices in the book of chosen cues
+-- the numbers of chosen cues
 abbrev pub numbersOf : List Numbered → List ℕ
 numbersOf xs = map (λ x. x .number) xs
 
--- the next cue that plays, held, and those after it
-pub record NextRead (day : ℕ) (book : List ℕ) (number place : ℕ) (r : NextCue) : Type 0 where
+-- the next cue that is chosen, held, and those after it
+pub record NextRead (who : Choice) (book : List ℕ) (number place : ℕ) (r : NextCue) : Type 0 where
   pub held : Held book
   pub later : List Numbered
-  pub split : chosenAt day book number place ≡ record { number = r .number; cue = held .cue } ∷ later
+  pub split : chosenAt who book number place ≡ record { number = r .number; cue = held .cue } ∷ later
   pub start : r .phrase ≡ held .start
   pub stop : r .«phrase_end» ≡ r .phrase + length (held .cue .phrase)
   pub short : length (held .cue .phrase) ≤ 1024
   pub ordinal : r .ordinal ≡ held .cue .ordinal
   pub passed : number ≤ r .number
-  pub left : CuesLeft day book (r .number + 1) (r .end) later
+  pub left : CuesLeft who book (r .number + 1) (r .end) later
 
--- so many cues that play are left; four arrays with room for 64
-pub record Gatherable (day : ℕ) (book : List ℕ) (number rest place : ℕ) (starts lens ordinals numbers : List ℕ) : Type 0 where
-  pub remaining : Remaining day book number place
-  pub rest-are : rest ≡ length (chosenAt day book number place)
+-- so many chosen cues are left; four arrays with room for 64
+pub record Gatherable (who : Choice) (book : List ℕ) (number rest place : ℕ) (starts lens ordinals numbers : List ℕ) : Type 0 where
+  pub remaining : Remaining who book number place
+  pub rest-are : rest ≡ length (chosenAt who book number place)
   pub starts-room : 64 ≤ length starts
   pub lens-room : 64 ≤ length lens
   pub ordinals-room : 64 ≤ length ordinals
   pub numbers-room : 64 ≤ length numbers
 
 -- their first entries are the group's
-pub record Gathered (day : ℕ) (book : List ℕ) (number place : ℕ) (r : CuesRead) (starts′ lens′ ordinals′ numbers′ : List ℕ) : Type 0 where
-  pub next : NextGroup day book number place (r .count) (r .number) (r .end)
+pub record Gathered (who : Choice) (book : List ℕ) (number place : ℕ) (r : CuesRead) (starts′ lens′ ordinals′ numbers′ : List ℕ) : Type 0 where
+  pub next : NextGroup who book number place (r .count) (r .number) (r .end)
   pub held : List (Held book)
   pub cues : cuesOf (next .group) ≡ cuesHeld held
   pub starts : take (r .count) starts′ ≡ startsOf held
@@ -111,9 +112,9 @@ pub record Gathered (day : ℕ) (book : List ℕ) (number place : ℕ) (r : Cues
 
 -- ---- the walk of a group
 
-pub record Searchable (day page : ℕ) (book : List ℕ) (number rest place : ℕ) (copy scratch left places numbers : List ℕ) : Type 0 where
-  pub remaining : Remaining day book number place
-  pub rest-are : rest ≡ length (chosenAt day book number place)
+pub record Searchable (who : Choice) (page : ℕ) (book : List ℕ) (number rest place : ℕ) (copy scratch left places numbers : List ℕ) : Type 0 where
+  pub remaining : Remaining who book number place
+  pub rest-are : rest ≡ length (chosenAt who book number place)
   pub known : isPage page ≡ true
   pub small : length copy ≤ 32768
   pub room : 65535 ≤ length scratch
@@ -127,8 +128,8 @@ pub record Told (f : ℕ → ℕ) (text left places : List ℕ) (group : List Cu
   pub missing : (before : List Cue) (c : Cue) (later : List Cue) → group ≡ before ++ c ∷ later → 1 ≤ getD left (length before) 0 → isThere f text c ≡ false
 
 -- every letter was read once, the scratch is 0 throughout, and of whatever text the copy is the folding, its cues are told
-pub record Searched (day page : ℕ) (book : List ℕ) (number place : ℕ) (copy scratch : List ℕ) (r : GroupFound) (scratch′ left′ places′ numbers′ : List ℕ) : Type 0 where
-  pub next : NextGroup day book number place (r .count) (r .number) (r .end)
+pub record Searched (who : Choice) (page : ℕ) (book : List ℕ) (number place : ℕ) (copy scratch : List ℕ) (r : GroupFound) (scratch′ left′ places′ numbers′ : List ℕ) : Type 0 where
+  pub next : NextGroup who book number place (r .count) (r .number) (r .end)
   pub reads : r .reads ≡ length copy
   pub emptied : scratch′ ≡ replicate (length scratch) 0
   pub lefts : length (take (r .count) left′) ≡ r .count
@@ -162,9 +163,9 @@ pub record Put (text : List ℕ) (index : ℕ) (left places : List ℕ) (known :
 
 -- ---- a group resolved
 
-pub record Begun (day page : ℕ) (book : List ℕ) (number index rest place : ℕ) (text copy scratch : List ℕ) (known : ℕ) (told : LineColumn) : Type 0 where
-  pub remaining : Remaining day book number place
-  pub rest-are : rest ≡ length (chosenAt day book number place)
+pub record Begun (who : Choice) (page : ℕ) (book : List ℕ) (number index rest place : ℕ) (text copy scratch : List ℕ) (known : ℕ) (told : LineColumn) : Type 0 where
+  pub remaining : Remaining who book number place
+  pub rest-are : rest ≡ length (chosenAt who book number place)
   pub behind : index ≤ number
   pub known-page : isPage page ≡ true
   pub small : length text ≤ 32768
@@ -174,9 +175,9 @@ pub record Begun (day page : ℕ) (book : List ℕ) (number index rest place : �
 
 -- the places of the cues before the first one with a fault, and their entries. By them the group is judged, whatever places were found before: as many as the index says, and the last of them the known
 -- one
-pub record Grouped (day page : ℕ) (book : List ℕ) (number index place : ℕ) (text scratch entries : List ℕ) (known : ℕ) (r : GroupResolved) (scratch′ entries′ : List ℕ) : Type 0 where
+pub record Grouped (who : Choice) (page : ℕ) (book : List ℕ) (number index place : ℕ) (text scratch entries : List ℕ) (known : ℕ) (r : GroupResolved) (scratch′ entries′ : List ℕ) : Type 0 where
   pub count : ℕ
-  pub next : NextGroup day book number place count (r .next) (r .end)
+  pub next : NextGroup who book number place count (r .next) (r .end)
   pub places : List ℕ
   pub put : r .put ≡ length places
   pub judged : (found : List ℕ) → index ≡ length found → known ≡ placeBefore found
@@ -191,22 +192,22 @@ pub record Grouped (day page : ℕ) (book : List ℕ) (number index place : ℕ)
 
 -- ---- all groups
 
--- every test before 12 was passed, there is a cue that plays, and the text is folded
-pub record Ready (day page : ℕ) (book : List ℕ) (count : ℕ) (text copy scratch entries : List ℕ) : Type 0 where
+-- every test before 12 was passed, there is a chosen cue, and the text is folded
+pub record Ready (who : Choice) (page : ℕ) (book : List ℕ) (count : ℕ) (text copy scratch entries : List ℕ) : Type 0 where
   pub read : readBook book ≡ cues (cuesIn (readBook book))
-  pub number : count ≡ length (playing day (cuesIn (readBook book)))
+  pub number : count ≡ length (playingFor who (cuesIn (readBook book)))
   pub some : 1 ≤ count
   pub known : isPage page ≡ true
   pub small : length text ≤ 32768
   pub copied : copy ≡ map (foldOn page) text
   pub room : 65535 ≤ length scratch
 
--- what the book's cues that play resolve to
-abbrev pub resolves : ℕ → ℕ → List ℕ → List ℕ → Resolution
-resolves day page book text = resolution (foldOn page) text (chosen day (cuesIn (readBook book)))
+-- what the book's chosen cues resolve to
+abbrev pub resolves : Choice → ℕ → List ℕ → List ℕ → Resolution
+resolves who page book text = resolution (foldOn page) text (chosen who (cuesIn (readBook book)))
 
 -- the answer, the scratch and the entries
-pub record Placed (day page : ℕ) (book text scratch entries : List ℕ) (r : Resolving) (scratch′ entries′ : List ℕ) : Type 0 where
-  pub answer : r ≡ answerOf (resolves day page book text)
+pub record Placed (who : Choice) (page : ℕ) (book text scratch entries : List ℕ) (r : Resolving) (scratch′ entries′ : List ℕ) : Type 0 where
+  pub answer : r ≡ answerOf (resolves who page book text)
   pub emptied : scratch′ ≡ replicate (length scratch) 0
-  pub entered : entries′ ≡ received entries (resolves day page book text .written)
+  pub entered : entries′ ≡ received entries (resolves who page book text .written)

@@ -1,7 +1,8 @@
-// The resolver (document 01, "Cue book, folding, lines"; document 02, (iv) and (vi) to (viii)): from the cues of a book that play on a day to place, line and column, as `outcome` defines it. The cues are
+// The resolver (document 01, "Cue book, folding, lines"; document 02, (iv), (vi) to (viii) and (xiv)): from the cues of a book that a role sees and that play on a day to place, line and column, as `outcome` defines it. The cues are
 // resolved in groups, and each group walks the folded text once.
 // It depends on `cue_fields`, `cues` and `cue_book` for the cues, on `fold`, on `phrases` and `automaton` for the walk of a group, on `line_column` for the line rule, on `tables` to clear the scratch,
 // and on `matching` for the laws of lent lists and of occurrences.
+use cues::Choice;
 use cues::CueAnswer;
 use line_column::LineColumn;
 ghost use mathlib.Core.Path.{_≡_};
@@ -19,7 +20,7 @@ pub struct Resolving {
     pub reads: u32,
 }
 
-// The next cue that plays: its index in the book, its phrase as the part of the book where it stands, its ordinal, and the place after it.
+// The next cue that is chosen: the number that names it, its phrase as the part of the book where it stands, its ordinal, and the place after it.
 struct NextCue {
     number: usize,
     phrase: usize,
@@ -28,14 +29,14 @@ struct NextCue {
     end: usize,
 }
 
-// A group as it was read from the book: how many cues it has, the index in the book of the cue after them, and its place.
+// A group as it was read from the book: how many cues it has, the number of the next cue that the role sees, and the place after them.
 struct CuesRead {
     count: usize,
     number: usize,
     end: usize,
 }
 
-// A group whose cues were looked for: how many it has, the index in the book of the cue after them, its place, and the letters of the text that were read.
+// A group whose cues were looked for: how many it has, the number of the next cue that the role sees, the place after them, and the letters of the text that were read.
 struct GroupFound {
     count: usize,
     number: usize,
@@ -51,7 +52,7 @@ struct EntriesPut {
     spot: LineColumn,
 }
 
-// A group that was resolved: the index in the book of the cue after it, its place, the letters of the text that were read, the first fault or 0, the index in the book of the cue with the fault, for how many
+// A group that was resolved: the number of the next cue that the role sees, the place after the group, the letters of the text that were read, the first fault or 0, the number of the cue with the fault, for how many
 // cues entries were put, and the last place with its line and column.
 struct GroupResolved {
     next: usize,
@@ -64,7 +65,7 @@ struct GroupResolved {
     spot: LineColumn,
 }
 
-// What reading on would give where no cue that plays were left.
+// What reading on would give where no chosen cue were left.
 fn no_cue(number: usize, place: usize) -> NextCue
     ensures { λ r. ⌜ r .number ≡ number ⌝ }
 {
@@ -77,10 +78,11 @@ fn no_cue(number: usize, place: usize) -> NextCue
     }
 }
 
-// Reads on from a place of the book, where the cue with that index begins, to the next cue that plays on a day. There is one.
-fn next_cue(day: u32, book: &[u8], number: usize, place: usize) -> NextCue
-    requires { ⌜ Remaining day (now book) number place ⌝ }
-    ensures { λ r. ⌜ NextRead day (now (book .entry)) number place r ⌝ }
+// Reads on from a place of the book to the next cue that the role sees and that plays on the day. There is one. The next cue that the role sees has that number, and the others count on from it; one that the
+// role does not see has none.
+fn next_cue(choice: Choice, book: &[u8], number: usize, place: usize) -> NextCue
+    requires { ⌜ Remaining choice (now book) number place ⌝ }
+    ensures { λ r. ⌜ NextRead choice (now (book .entry)) number place r ⌝ }
 {
     let mut index = number;
     let mut at = place;
@@ -93,32 +95,35 @@ fn next_cue(day: u32, book: &[u8], number: usize, place: usize) -> NextCue
             title: _,
             title_end: _,
             days,
+            mark,
             end,
         } = cue
         else {
             // the whole book was read before
             return no_cue(number, place);
         };
-        if cues::plays(days, day) {
-            return NextCue {
-                number: index,
-                phrase,
-                phrase_end,
-                ordinal,
-                end,
-            };
+        if cues::sees_mark(choice.role, mark) {
+            if cues::plays(days, choice.day) {
+                return NextCue {
+                    number: index,
+                    phrase,
+                    phrase_end,
+                    ordinal,
+                    end,
+                };
+            }
+            index += 1;
         }
-        index += 1;
         at = end;
     }
-    // and a cue that plays is left
+    // and a chosen cue is left
     no_cue(number, place)
 }
 
-// Reads the next group from the book, at the place of the cue with that index, where so many that play on a day are left: where each phrase starts, its length, the cue's ordinal, and its index. A cue that
+// Reads the next group from the book, at a place where the next cue that the role sees has that number, and so many chosen ones are left: where each phrase starts, its length, the cue's ordinal, and its number. A cue that
 // would be the 65th, or pass 4,096 phrase bytes, is left for the next group.
 fn gather(
-    day: u32,
+    choice: Choice,
     book: &[u8],
     number: usize,
     rest: usize,
@@ -128,15 +133,15 @@ fn gather(
     ordinals: &mut [u32],
     numbers: &mut [u32],
 ) -> CuesRead
-    requires { ⌜ Gatherable day (now book) number rest place (now starts) (now lens) (now ordinals) (now numbers) ⌝ }
-    ensures { λ r. ⌜ Gathered day (now (book .entry)) number place r (now (starts .exit)) (now (lens .exit)) (now (ordinals .exit)) (now (numbers .exit)) ⌝ }
+    requires { ⌜ Gatherable choice (now book) number rest place (now starts) (now lens) (now ordinals) (now numbers) ⌝ }
+    ensures { λ r. ⌜ Gathered choice (now (book .entry)) number place r (now (starts .exit)) (now (lens .exit)) (now (ordinals .exit)) (now (numbers .exit)) ⌝ }
 {
     let mut count = 0;
     let mut letters = 0;
     let mut next = number;
     let mut end = place;
     while count < rest {
-        let cue = next_cue(day, book, next, end);
+        let cue = next_cue(choice, book, next, end);
         let len = cue.phrase_end - cue.phrase;
         letters += len;
         if !outcome::group_fits(count + 1, letters) {
@@ -162,10 +167,10 @@ fn gather(
     }
 }
 
-// Looks for the next group's cues in the folded text, in one walk. For each cue it leaves how many occurrences are missing up to the one that it names, 0 where that one was found, its place, and its index in
-// the book.
+// Looks for the next group's cues in the folded text, in one walk. For each cue it leaves how many occurrences are missing up to the one that it names, 0 where that one was found, its place, and its
+// number.
 fn find_group(
-    day: u32,
+    choice: Choice,
     page: u32,
     book: &[u8],
     number: usize,
@@ -177,13 +182,13 @@ fn find_group(
     places: &mut [u32],
     numbers: &mut [u32],
 ) -> GroupFound
-    requires { ⌜ Searchable day page (now book) number rest place (now copy) (now scratch) (now left) (now places) (now numbers) ⌝ }
-    ensures { λ r. ⌜ Searched day page (now (book .entry)) number place (now (copy .entry)) (now (scratch .entry)) r (now (scratch .exit)) (now (left .exit)) (now (places .exit)) (now (numbers .exit)) ⌝ }
+    requires { ⌜ Searchable choice page (now book) number rest place (now copy) (now scratch) (now left) (now places) (now numbers) ⌝ }
+    ensures { λ r. ⌜ Searched choice page (now (book .entry)) number place (now (copy .entry)) (now (scratch .entry)) r (now (scratch .exit)) (now (left .exit)) (now (places .exit)) (now (numbers .exit)) ⌝ }
 {
     let mut starts = [0; 64];
     let mut lens = [0; 64];
     let cues = gather(
-        day,
+        choice,
         book,
         number,
         rest,
@@ -212,7 +217,7 @@ fn find_group(
     }
 }
 
-// The index in the book of the cue after those for which entries were put, which has the fault; 0 where there is none.
+// The number of the cue after those for which entries were put, which has the fault; 0 where there is none.
 fn faulty_number(numbers: &[u32], put: usize) -> u32
     ensures { λ r. ⌜ r ≡ getD (now (numbers .entry)) put 0 ⌝ }
 {
@@ -291,7 +296,7 @@ fn put_group(
 
 // Resolves the next group, up to the first of its cues with a fault.
 fn resolve_group(
-    day: u32,
+    choice: Choice,
     page: u32,
     book: &[u8],
     number: usize,
@@ -305,14 +310,14 @@ fn resolve_group(
     known: u32,
     told: LineColumn,
 ) -> GroupResolved
-    requires { ⌜ Begun day page (now book) number index rest place (now text) (now copy) (now scratch) known told ⌝ }
-    ensures { λ r. ⌜ Grouped day page (now (book .entry)) number index place (now (text .entry)) (now (scratch .entry)) (now (entries .entry)) known r (now (scratch .exit)) (now (entries .exit)) ⌝ }
+    requires { ⌜ Begun choice page (now book) number index rest place (now text) (now copy) (now scratch) known told ⌝ }
+    ensures { λ r. ⌜ Grouped choice page (now (book .entry)) number index place (now (text .entry)) (now (scratch .entry)) (now (entries .entry)) known r (now (scratch .exit)) (now (entries .exit)) ⌝ }
 {
     let mut left = [0; 64];
     let mut places = [0; 64];
     let mut numbers = [0; 64];
     let group = find_group(
-        day,
+        choice,
         page,
         book,
         number,
@@ -348,9 +353,9 @@ fn resolve_group(
     }
 }
 
-// Resolves group by group, reading the book's cues once more, up to the first cue with a fault. So many play on the day.
+// Resolves group by group, reading the book's cues once more, up to the first cue with a fault. So many are chosen.
 fn resolve_groups(
-    day: u32,
+    choice: Choice,
     page: u32,
     book: &[u8],
     cues: usize,
@@ -359,8 +364,8 @@ fn resolve_groups(
     scratch: &mut [u16],
     entries: &mut [u32],
 ) -> Resolving
-    requires { ⌜ Ready day page (now book) cues (now text) (now copy) (now scratch) (now entries) ⌝ }
-    ensures { λ r. ⌜ Placed day page (now (book .entry)) (now (text .entry)) (now (scratch .entry)) (now (entries .entry)) r (now (scratch .exit)) (now (entries .exit)) ⌝ }
+    requires { ⌜ Ready choice page (now book) cues (now text) (now copy) (now scratch) (now entries) ⌝ }
+    ensures { λ r. ⌜ Placed choice page (now (book .entry)) (now (text .entry)) (now (scratch .entry)) (now (entries .entry)) r (now (scratch .exit)) (now (entries .exit)) ⌝ }
 {
     let mut number = 0;
     let mut index = 0;
@@ -370,7 +375,7 @@ fn resolve_groups(
     let mut spot = LineColumn { line: 1, column: 1 };
     while index < cues {
         let g = resolve_group(
-            day,
+            choice,
             page,
             book,
             number,
@@ -409,8 +414,9 @@ fn resolve_groups(
     }
 }
 
-// Resolves the cues of a book that play on a day in a text, both folded by a page: 0 and the number of these cues, or the refusal and its number; and the letters that were read.
+// Resolves the cues of a book that a role sees and that play on a day in a text, both folded by a page: 0 and the number of these cues, or the refusal and its number; and the letters that were read.
 pub fn resolve(
+    role: u32,
     day: u32,
     page: u32,
     book: &[u8],
@@ -419,10 +425,11 @@ pub fn resolve(
     scratch: &mut [u16],
     entries: &mut [u32],
 ) -> Resolving
-    ensures { λ r. ⌜ Resolved day page (now (book .entry)) (now (text .entry)) (now (copy .entry)) (now (scratch .entry)) (now (entries .entry)) r (now (copy .exit)) (now (scratch .exit)) (now (entries .exit)) ⌝ }
+    ensures { λ r. ⌜ Resolved (record { role = role; day = day }) page (now (book .entry)) (now (text .entry)) (now (copy .entry)) (now (scratch .entry)) (now (entries .entry)) r (now (copy .exit)) (now (scratch .exit)) (now (entries .exit)) ⌝ }
 {
     let n = text.len();
-    let refusal = outcome::refused(day, page, n, copy.len(), scratch.len());
+    let choice = Choice { role, day };
+    let refusal = outcome::refused(choice, page, n, copy.len(), scratch.len());
     if refusal != 0 {
         return Resolving {
             refusal,
@@ -430,7 +437,7 @@ pub fn resolve(
             reads: 0,
         };
     }
-    let read = cue_book::read_playing(book, day);
+    let read = cue_book::read_chosen(book, choice);
     if read.refusal != 0 {
         return Resolving {
             refusal: read.refusal,
@@ -456,5 +463,5 @@ pub fn resolve(
             reads: 0,
         };
     }
-    resolve_groups(day, page, book, cues, text, &copy[..n], scratch, entries)
+    resolve_groups(choice, page, book, cues, text, &copy[..n], scratch, entries)
 }

@@ -15,11 +15,11 @@ use Rattle.resolver.proofs.gather.Statement.{statement}
 use Rattle.resolver.proofs.gather.Tie as tie
 
 abbrev Inv-loop : tie.InvT-loop
-Inv-loop day book number rest place starts₀ lens₀ ordinals₀ numbers₀ count₀ letters₀ next₀ end₀ starts lens ordinals numbers count letters next end =
-    Gathers day book number place starts₀ lens₀ ordinals₀ numbers₀ count letters next end starts lens ordinals numbers
+Inv-loop who book number rest place starts₀ lens₀ ordinals₀ numbers₀ count₀ letters₀ next₀ end₀ starts lens ordinals numbers count letters next end =
+    Gathers who book number place starts₀ lens₀ ordinals₀ numbers₀ count letters next end starts lens ordinals numbers
 
 abbrev μ-loop : tie.MeasureT-loop
-μ-loop day book number rest place starts₀ lens₀ ordinals₀ numbers₀ count₀ letters₀ next₀ end₀ starts lens ordinals numbers count letters next end =
+μ-loop who book number rest place starts₀ lens₀ ordinals₀ numbers₀ count₀ letters₀ next₀ end₀ starts lens ordinals numbers count letters next end =
     rest - count
 
 -- where the call came in, and the loop's turn
@@ -44,7 +44,7 @@ module _ (l : tie.At-loop Inv-loop μ-loop) where
   numbers-kept = let g = l .loop .inv in ap length (g .numbers-are) ∙ length-received (start l .args .numbers .now) (numbersOf (g .items))
 
 -- the next cue that plays, and that its index in the book is no more than 998
-this : (k : tie.After-struct-known Inv-loop μ-loop) → let l = turn k in NextRead (start l .args .day) (start l .args .book .now) (l .loop .next) (l .loop .end) (k .before .next-cue .result)
+this : (k : tie.After-struct-known Inv-loop μ-loop) → let l = turn k in NextRead (start l .args .choice) (start l .args .book .now) (l .loop .next) (l .loop .end) (k .before .next-cue .result)
 this k = k .before .next-cue .ensures
 
 below : (k : tie.After-struct-known Inv-loop μ-loop) → k .before .next-cue .result .number + 1 ≤ 999

@@ -9,10 +9,11 @@ use Rattle.matching.proofs.Received.{received-front}
 use Rattle.fold.specs.Fold.{foldOn}
 use Rattle.fold.proofs.Fold.{letters-made, letters-left}
 use Rattle.matching.specs.declared.Answer.{Answer}
-use Rattle.cue_book.specs.Reading.{cues, readBook, playing, cuesIn}
-use Rattle.cue_book.proofs.Books.{accepted-book, playing-is, playing-cues}
+use Rattle.cues.specs.declared.Choice.{Choice}
+use Rattle.cue_book.specs.Reading.{cues, readBook, playingFor, cuesIn}
+use Rattle.cue_book.proofs.Books.{accepted-book, chosen-is, chosen-cues}
 use Rattle.outcome.specs.Outcome.{chosen, Call, callRefusal}
-use Rattle.outcome.proofs.Choosing.{length-chosen}
+use Rattle.outcome.proofs.Choosing.{length-for}
 use Rattle.outcome.proofs.Calls.{Enough, enough}
 use Rattle.resolver.specs.Resolver.{call}
 use Rattle.resolver.proofs.Walking.{along-first, along-end}
@@ -21,8 +22,11 @@ use Rattle.resolver.proofs.resolve.Statement.{statement}
 use Rattle.resolver.proofs.resolve.Tie as tie
 
 -- the call, as it came in
+abbrev told : tie.Start → Choice
+told s = record { role = s .args .role; day = s .args .day }
+
 abbrev called : tie.Start → Call
-called s = let a = s .args in call (a .day) (a .page) (a .text .now) (a .copy .now) (a .scratch .now) (a .entries .now)
+called s = let a = s .args in call (told s) (a .page) (a .text .now) (a .copy .now) (a .scratch .now) (a .entries .now)
 
 -- the places after the tests of the memory, of the book and of the entries, and where the call came in
 abbrev start : tie.Else1 → tie.Start
@@ -45,19 +49,19 @@ some e = e .before .before .before
 fine : (e : tie.Else1) → callRefusal (called (start e)) ≡ 0
 fine e = sym (e .before .refused .ensures) ∙ e .if1 .left
 
--- the book was read, and as many of its cues play as reading it gave
+-- the book was read, and as many of its cues are chosen as reading it gave
 module _ (e : tie.Else2) where
   abbrev book : List ℕ
   book = start (tested e) .args .book .now
 
   read : readBook book ≡ cues (cuesIn (readBook book))
-  read = accepted-book book (sym (ap (λ (r : Answer). r .refusal) (e .before .before .read-playing .ensures ∙ playing-is (start (tested e) .args .day) book)) ∙ e .if2 .left) .0
+  read = accepted-book book (sym (ap (λ (r : Answer). r .refusal) (e .before .before .read-chosen .ensures ∙ chosen-is (told (start (tested e))) book)) ∙ e .if2 .left) .0
 
-  abbrev day : ℕ
-  day = start (tested e) .args .day
+  abbrev who : Choice
+  who = told (start (tested e))
 
-  number : e .before .before .read-playing .result .number ≡ length (playing day (cuesIn (readBook book)))
-  number = ap (λ (x : Answer). x .number) (e .before .before .read-playing .ensures ∙ playing-cues day book read)
+  number : e .before .before .read-chosen .result .number ≡ length (playingFor who (cuesIn (readBook book)))
+  number = ap (λ (x : Answer). x .number) (e .before .before .read-chosen .ensures ∙ chosen-cues who book read)
 
 -- the copy's front is the folded text, and the entries are enough
 module _ (l : tie.After-letters) where
@@ -84,7 +88,7 @@ module _ (l : tie.After-letters) where
   held : take (length text) (l .letters .last .1 .1 .0) ≡ values
   held = letters-left (l .letters .ensures) (lent .known) (lent .whole)
 
-  three : 3 * length (playing (day (accepted l)) (cuesIn (readBook (book (accepted l))))) ≤ length (entry .args .entries .now)
+  three : 3 * length (playingFor (who (accepted l)) (cuesIn (readBook (book (accepted l))))) ≤ length (entry .args .entries .now)
   three = omega (arith, number (accepted l), l .before .before .if3 .left)
 
 refused-requires : tie.Need-refused-requires
@@ -93,11 +97,11 @@ refused-requires c κs = search needs
 returns : tie.Need-returns
 returns c = resolved-memory _ _ _ _ _ _ _ (c .before .refused .ensures) (c .if1 .taken)
 
-read-playing-requires : tie.Need-read-playing-requires
-read-playing-requires c κs = search needs
+read-chosen-requires : tie.Need-read-chosen-requires
+read-chosen-requires c κs = search needs
 
 returns-2 : tie.Need-returns-2
-returns-2 c = let b = c .before .before in resolved-book _ _ _ _ _ _ _ (fine (b .before)) (b .read-playing .ensures) (c .if2 .taken)
+returns-2 c = let b = c .before .before in resolved-book _ _ _ _ _ _ _ (fine (b .before)) (b .read-chosen .ensures) (c .if2 .taken)
 
 cast-cues : tie.Need-cast-cues
 cast-cues c = search needs
@@ -127,9 +131,9 @@ returns-4 c =
     let l = none e in
     let a = entry l .args in
     let cs = cuesIn (readBook (a .book .now)) in
-    let none : length (chosen (a .day) cs) ≤ 0 = omega (arith, length-chosen (a .day) 0 cs, number (accepted l), e .if4 .taken) in
+    let none : length (chosen (told (entry l)) cs) ≤ 0 = omega (arith, length-for (told (entry l)) cs, number (accepted l), e .if4 .taken) in
     resolved-works _ _ _ _ _ _ _ (fine (tested (accepted l))) (read (accepted l)) (three l) (copied l)
-    (along-end (along-first (a .day) (a .page) (a .book .now) (a .text .now) (a .entries .now) (read (accepted l))) refl none (s .set-all .ensures))
+    (along-end (along-first (told (entry l)) (a .page) (a .book .now) (a .text .now) (a .entries .now) (read (accepted l))) refl none (s .set-all .ensures))
 
 slice-reshare-prefix-resolve-groups : tie.Need-slice-reshare-prefix-resolve-groups
 slice-reshare-prefix-resolve-groups c =
@@ -168,7 +172,7 @@ resolve-spec =
     (tie.spec
     refused-requires
     returns
-    read-playing-requires
+    read-chosen-requires
     returns-2
     cast-cues
     mul-if3

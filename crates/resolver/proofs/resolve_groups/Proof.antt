@@ -9,18 +9,18 @@ use Rattle.cue_book.specs.Reading.{readBook, cuesIn}
 use Rattle.line_column.specs.LineColumn.{lineColumn}
 use Rattle.line_column.proofs.Lines.{line-first}
 use Rattle.outcome.specs.Outcome.{chosen, entriesOf}
-use Rattle.outcome.proofs.Choosing.{length-chosen}
+use Rattle.outcome.proofs.Choosing.{length-for}
 use Rattle.resolver.proofs.Walking.{Along, along-first, along-rest, along-left, along-few, along-end, some-cue, put-few, along-next, along-stop}
 use Rattle.resolver.proofs.resolve_groups.Statement.{statement}
 use Rattle.resolver.proofs.resolve_groups.Tie as tie
 
 abbrev Inv-loop : tie.InvT-loop
-Inv-loop day page book cues text copy scratch₀ entries₀ number₀ index₀ place₀ reads₀ known₀ spot₀ scratch entries number index place reads known spot =
-    Along day page book text (chosen day (cuesIn (readBook book))) entries₀ number index place reads known entries
+Inv-loop who page book cues text copy scratch₀ entries₀ number₀ index₀ place₀ reads₀ known₀ spot₀ scratch entries number index place reads known spot =
+    Along who page book text (chosen who (cuesIn (readBook book))) entries₀ number index place reads known entries
     × ((length scratch ≡ length scratch₀) × ((1 ≤ index → scratch ≡ replicate (length scratch₀) 0) × (spot ≡ lineColumn text known)))
 
 abbrev μ-loop : tie.MeasureT-loop
-μ-loop day page book cues text copy scratch₀ entries₀ number₀ index₀ place₀ reads₀ known₀ spot₀ scratch entries number index place reads known spot =
+μ-loop who page book cues text copy scratch₀ entries₀ number₀ index₀ place₀ reads₀ known₀ spot₀ scratch entries number index place reads known spot =
     cues - index
 
 -- the places of this proof: where the call came in, the loop's turn, and the group that was resolved in it
@@ -34,7 +34,7 @@ abbrev resolved : tie.After-struct-known Inv-loop μ-loop → tie.After-resolve-
 resolved s = s .before .before .before .before .before
 
 module _ (l : tie.At-loop Inv-loop μ-loop) where
-  along : let a = start l .args in Along (a .day) (a .page) (a .book .now) (a .text .now) (chosen (a .day) (cuesIn (readBook (a .book .now)))) (a .entries .now) (l .loop .number) (l .loop .index) (l .loop .place) (l .loop .reads) (l .loop .known) (l .loop .entries)
+  along : let a = start l .args in Along (a .choice) (a .page) (a .book .now) (a .text .now) (chosen (a .choice) (cuesIn (readBook (a .book .now)))) (a .entries .now) (l .loop .number) (l .loop .index) (l .loop .place) (l .loop .reads) (l .loop .known) (l .loop .entries)
   along = l .loop .inv .0
 
   -- the entries keep their length
@@ -67,11 +67,11 @@ loop-holds : tie.Need-loop-holds Inv-loop μ-loop
 loop-holds c =
     let s = c .before .before .before .before .before in
     let a = s .args in
-    (along-first (a .day) (a .page) (a .book .now) (a .text .now) (a .entries .now) (s .pre .read), (refl, (λ h. absurd (omega arith), line-first (a .text .now))))
+    (along-first (a .choice) (a .page) (a .book .now) (a .text .now) (a .entries .now) (s .pre .read), (refl, (λ h. absurd (omega arith), line-first (a .text .now))))
 
 -- as many cues as the call says
-counted : (l : tie.At-loop Inv-loop μ-loop) → let a = start l .args in a .cues ≡ length (chosen (a .day) (cuesIn (readBook (a .book .now))))
-counted l = let a = start l .args in start l .pre .number ∙ sym (length-chosen (a .day) 0 (cuesIn (readBook (a .book .now))))
+counted : (l : tie.At-loop Inv-loop μ-loop) → let a = start l .args in a .cues ≡ length (chosen (a .choice) (cuesIn (readBook (a .book .now))))
+counted l = let a = start l .args in start l .pre .number ∙ sym (length-for (a .choice) (cuesIn (readBook (a .book .now))))
 
 sub-resolve-group : tie.Need-sub-resolve-group Inv-loop μ-loop
 sub-resolve-group c = omega (arith, c .loop-test .taken)
