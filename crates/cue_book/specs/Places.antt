@@ -16,6 +16,7 @@ use Rattle.cues.specs.Places.{cueNumber, cueEnd, cuesMeant, titleStart, titleLe
 use Rattle.matching.specs.declared.Answer.{Answer}
 use Rattle.matching.specs.Joined.{those}
 use Rattle.cue_book.specs.declared.Part.{Part}
+use Rattle.cue_book.specs.declared.TitleRead.{TitleRead}
 use Rattle.cue_book.specs.Reading.{readBook, refusalOf, numberOf, chosenOf, cuesIn, titleAt}
 
 -- ---- a book
@@ -66,6 +67,11 @@ pub record Shows (book : List ℕ) (index : ℕ) (p : Part) : Type 0 where
 pub record TitlePlaced (book : List ℕ) (index : ℕ) (r : Part) : Type 0 where
   pub answer : r ≡ titlePart book index
   pub shows : take (r .len) (drop (r .start) book) ≡ titleAt (cuesIn (readBook book)) index
+
+-- what reading a book for the title of a cue gives back: the book's answer, and where the title stands
+abbrev pub titleRead : List ℕ → ℕ → TitleRead
+titleRead book index =
+    record { refusal = refusalOf (readBook book); number = numberOf (readBook book); start = titlePart book index .start; len = titlePart book index .len }
 
 -- the part itself, a reference into the book: it begins in the book's own memory, so many bytes from the book's first, it has the part's length, and the title of that cue is what
 -- stands there. So the title of a refused book or of a missing cue is the empty part at the book's front, and no other empty part

@@ -1,4 +1,4 @@
-// This crate reads whole cue books, and shows a title (document 01, "Cue book, folding, lines"; document 02, (viii) and (xiv)).
+// This crate reads whole cue books, and shows a title or finds where it stands (document 01, "Cue book, folding, lines"; document 02, (viii) and (xiv)).
 // It depends on `cues` for one cue, on `cue_fields` for the size of a cue's fields, and on `matching` for the answer that a call gives, what of a list passes a test, case analysis and parts of a slice.
 // proofs/Books.antt has the laws of a book read cue by cue; `cue_writer` has those that a book written reads back.
 use cues::Choice;
@@ -7,12 +7,20 @@ use matching::Answer;
 ghost use mathlib.Core.Path.{_≡_};
 ghost use Prim.Native.Nat.{_≤_};
 ghost use lib.ListN.{length, take};
-ghost use Rattle.cue_book.specs.Places.{bookAnswer, chosenAnswer, TitlePlaced, TitleShown};
+ghost use Rattle.cue_book.specs.Places.{bookAnswer, chosenAnswer, titleRead, TitlePlaced, TitleShown};
 ghost use Rattle.cue_book.specs.Walking.{Walked};
 
 // A part of a book: where it starts, and how many bytes it has.
 #[repr(C)]
 pub struct Part {
+    pub start: usize,
+    pub len: usize,
+}
+
+// What reading a book for the title of one of its cues gives: the book's answer, and the part where the title stands.
+pub struct TitleRead {
+    pub refusal: u32,
+    pub number: u32,
     pub start: usize,
     pub len: usize,
 }
@@ -121,6 +129,19 @@ pub fn title_part(book: &[u8], cue: u32) -> Part
     Part {
         start: w.start,
         len: w.len,
+    }
+}
+
+// Reads a book and finds the title of a cue in one pass: the book's answer, and the title's part as `title_part` gives it.
+pub fn find_title(book: &[u8], cue: u32) -> TitleRead
+    ensures { λ r. ⌜ r ≡ titleRead (now (book .entry)) cue ⌝ }
+{
+    let found = walk(book, Choice { role: 0, day: 0 }, cue);
+    TitleRead {
+        refusal: found.refusal,
+        number: found.number,
+        start: found.start,
+        len: found.len,
     }
 }
 
