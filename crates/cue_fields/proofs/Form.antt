@@ -1,4 +1,4 @@
--- Fields in the order of a list: a field by whether it stands there, the first refusal among them by its cases, what is written reads back (`form-back`), and what is accepted was so written (`form-put`).
+-- Fields in the order of a list: a field by whether it stands there, the first refusal among them by its cases, their bytes in two parts (`form-append`), what is written reads back (`form-back`), how many bytes they take at most (`form-most`), and what is accepted was so written (`form-put`).
 -- Each holds for any list of fields. Assumes nothing.
 use mathlib.Core.Path.{_≡_, refl, sym, ap, ap₂, subst, _∙_}
 use Prim.Native.Nat.{ℕ, zero, suc, _+_, _*_, _/_, _%_, _≤_, _<_}
@@ -94,6 +94,16 @@ form-inside [] rest e = omega arith
 form-inside (due ∷ dues) rest e =
     let f = form-fine due dues rest e in
     omega (arith, due-inside due rest (f .0), form-inside dues (afterDue due rest) (f .1), length-drop (dueSize due rest) rest)
+
+-- ---- the bytes of some fields, and then of others
+
+pub form-append : (dues more : List Due) (bodies others : List (List ℕ)) → length bodies ≡ length dues → formBytes (dues ++ more) (bodies ++ others) ≡ formBytes dues bodies ++ formBytes more others
+unfolding formBytes
+form-append [] more [] others e = refl
+form-append [] more (body ∷ bodies) others e = absurd (omega arith)
+form-append (due ∷ dues) more [] others e = absurd (omega arith)
+form-append (due ∷ dues) more (body ∷ bodies) others e =
+    ap (λ (l : List ℕ). dueBytes due body ++ l) (form-append dues more bodies others (omega arith)) ∙ sym (append-assoc (dueBytes due body) (formBytes dues bodies) (formBytes more others))
 
 -- ---- what is written reads back
 
@@ -204,6 +214,11 @@ bytes-take [] (suc k) b i = omega arith
 bytes-take (x ∷ l) (suc k) b zero = b 0
 bytes-take (x ∷ l) (suc k) b (suc i) = bytes-take l k (λ j. b (suc j)) i
 
+-- a number in two bytes
+pub number-most : (l : List ℕ) → Bytes l → numberIn l ≤ 65535
+unfolding numberIn
+number-most l b = omega (arith, b 0, b 1)
+
 -- the body of a field in a byte string is one
 pub body-bytes : (due : Due) (rest : List ℕ) → Bytes rest → Bytes (dueBody due rest)
 body-bytes due rest b =
@@ -211,6 +226,22 @@ body-bytes due rest b =
     (λ _ s. subst Bytes (sym (standing due rest s .2)) (bytes-take (drop 3 rest) (fieldLength rest) (bytes-drop rest 3 b)))
     (λ _ s. subst Bytes (sym (left-out due rest s .2)) (λ i. omega arith))
     refl
+
+-- each field takes at most 65,538 bytes, three and as many as its two bytes of length tell
+pub form-most : (dues : List Due) (rest : List ℕ) → Bytes rest → formSize dues rest ≤ 65538 * length dues
+unfolding formSize
+form-most [] rest b = omega arith
+form-most (due ∷ dues) rest b = omega (arith, due-most, form-most dues (afterDue due rest) (bytes-drop rest (dueSize due rest) b))
+  where
+    told : fieldSize rest ≤ 65538
+    told = omega (arith, number-most (drop 1 rest) (bytes-drop rest 1 b))
+
+    due-most : dueSize due rest ≤ 65538
+    due-most =
+        by-test (λ t. (stands due rest ≡ t) → dueSize due rest ≤ 65538) (stands due rest)
+        (λ _ s. omega (arith, standing due rest s .1, told))
+        (λ _ s. omega (arith, left-out due rest s .1))
+        refl
 
 -- a field that was read, from its body
 field-written : (due : Due) (rest : List ℕ) → Bytes rest → Fielded due rest → (rest ≡ fieldBytes (tagOf due) (fieldBody rest) ++ afterField rest) × (length (fieldBody rest) ≡ fieldLength rest)

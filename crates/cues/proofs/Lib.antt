@@ -1,3 +1,4 @@
--- The laws of cues and of their values.
+-- The laws of cues, of their values, and of their titles.
 pub mod Cues
 pub mod Values
+pub mod Titles

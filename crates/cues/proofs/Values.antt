@@ -1,7 +1,7 @@
 -- A cue's value and the bodies of its fields give back each other; so a cue that is written reads back (`cue-back`), and one that is accepted was so written (`cue-put`). Assumes
 -- nothing.
 use mathlib.Core.Path.{_≡_, refl, sym, ap, ap₂, _∙_}
-use Prim.Native.Nat.{ℕ, _+_, _*_, _/_, _%_, _≤_, _<_}
+use Prim.Native.Nat.{ℕ, _+_, _*_, _/_, _%_, _<_}
 use native.Mathlib.Omega.{arith}
 use mathlib.Core.Bool.{true, false, cond, false≢true}
 use mathlib.Core.List.{List, [], _∷_, _++_}
@@ -15,7 +15,7 @@ use Rattle.calendar.specs.Calendar.{daysRefusal}
 use Rattle.cue_fields.specs.declared.Due.the-variants.{Phrase, Ordinal, Title, Dates, House}
 use Rattle.cue_fields.specs.Field.{twoBytes, numberIn, firstIn, lastIn, markIn, valueTests}
 use Rattle.cue_fields.specs.Form.{dueSize, dueBody, afterDue, formBodies, formBytes, Sound, AllSound, Other, Told, Bytes}
-use Rattle.cue_fields.proofs.Form.{two-number, form-back, form-put, bytes-drop, body-bytes}
+use Rattle.cue_fields.proofs.Form.{two-number, form-back, form-put, bytes-drop, number-most, body-bytes}
 use Rattle.cues.specs.declared.Days.{Days}
 use Rattle.cues.specs.declared.Days.the-variants.{Always, Within}
 use Rattle.cues.specs.declared.Mark.{Mark}
@@ -57,7 +57,7 @@ mark-sound Unmarked = record { lengths = λ f. absurd (false≢true (sym f)); va
 mark-sound Open = record { lengths = λ _. refl; value = λ _. refl }
 mark-sound HouseOnly = record { lengths = λ _. refl; value = λ _. refl }
 
-valid-sound : (c : Cue) → Valid c → AllSound cueForm (cueBodies c)
+pub valid-sound : (c : Cue) → Valid c → AllSound cueForm (cueBodies c)
 unfolding AllSound firstMet
 valid-sound c v =
     let phrase : Sound Phrase (c .phrase) = record { lengths = λ _. rw (le-leb 1 (length (c .phrase)) (v .some), le-leb (length (c .phrase)) 1024 (v .short)); value = λ _. refl } in
@@ -102,10 +102,6 @@ unfolding numberIn
 four-back [] e b = absurd (omega arith)
 four-back (x ∷ []) e b = absurd (omega arith)
 four-back (x ∷ y ∷ l) e b = ap₂ (λ (s t : List ℕ). s ++ t) (two-back (x ∷ y ∷ []) refl (b 1)) (two-back l (omega arith) (b 3))
-
-number-small : (l : List ℕ) → Bytes l → numberIn l ≤ 65535
-unfolding numberIn
-number-small l b = omega (arith, b 0, b 1)
 
 -- an ordinal's number is not 0
 ordinal-named : (body : List ℕ) → Sound Ordinal body → eqb (numberIn body) 0 ≡ false
@@ -154,7 +150,7 @@ sound-valid phrase ordinal title dates house b d s =
             some = leb-true 1 (length phrase) (lengths .0);
             short = leb-true (length phrase) 1024 (lengths .1);
             named = omega (arith, eqb-false (numberIn ordinal) 0 (ordinal-named ordinal o));
-            small = number-small ordinal b;
+            small = number-most ordinal b;
             shown = leb-true (length title) 200 (s .1 .1 .0 .lengths refl);
             dated = days .1;
           };
