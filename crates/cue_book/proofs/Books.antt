@@ -1,6 +1,6 @@
--- A book read cue by cue: the cases of `readUpTo`, what an accepted book's first cue is, where its titles stand, and what is known at each cue of a walk over it. Assumes nothing.
+-- A book read cue by cue: the cases of `readUpTo`, what an accepted book's first cue is, how long it is at most, where its titles stand, and what is known at each cue of a walk over it. Assumes nothing.
 use mathlib.Core.Path.{_≡_, refl, sym, ap, ap₂, subst, _∙_}
-use Prim.Native.Nat.{ℕ, zero, suc, _+_, _-_, _≤_, _<_}
+use Prim.Native.Nat.{ℕ, zero, suc, _+_, _-_, _*_, _≤_, _<_}
 use native.Mathlib.Omega.{arith}
 use native.Mathlib.Numerals.{add-one}
 use mathlib.Core.Bool.{true, false, cond, _&&_}
@@ -13,13 +13,14 @@ use Rattle.matching.specs.Joined.{those}
 use Rattle.matching.proofs.CaseAnalysis.{by-test}
 use Rattle.matching.proofs.Those.{those-nothing, those-append, those-few}
 use Rattle.cue_fields.specs.Field.{fieldBody}
-use Rattle.cue_fields.specs.Form.{formSize, afterForm}
+use Rattle.cue_fields.specs.Form.{formSize, afterForm, Bytes}
 use Rattle.cue_fields.proofs.Fields.{after-field}
+use Rattle.cue_fields.proofs.Form.{bytes-drop, form-most}
 use Rattle.cues.specs.declared.CueAnswer.{CueAnswer}
 use Rattle.cues.specs.declared.Days.{Days}
 use Rattle.cues.specs.declared.Mark.{Mark}
 use Rattle.cues.specs.declared.Choice.{Choice}
-use Rattle.cues.specs.Cue.{Cue, headForm, playsOn, seenBy, isChosen}
+use Rattle.cues.specs.Cue.{Cue, cueForm, headForm, playsOn, seenBy, isChosen}
 use Rattle.cues.specs.Reading.{cueRefusal, cueSize, afterCue, cueOf}
 use Rattle.cues.specs.Places.{cueEnd, titleStart, titleLength, cueAt, CueRead}
 use Rattle.cues.proofs.Cues.{cue-gap, cue-phrase, cue-some, cue-inside, title-body, title-last, CueAt, title-ends}
@@ -179,6 +180,21 @@ accepted-book book z = by-reading (readBook book) refl
         let none : number ≡ 0 = sym (ap refusalOf e) ∙ z in
         absurd (omega arith)
     by-reading (cues cs) e = (e ∙ ap (λ (r : Reading). cues (cuesIn r)) (sym e), ap numberOf e ∙ ap (λ (r : Reading). length (cuesIn r)) (sym e))
+
+-- ---- how long an accepted book is
+
+-- a cue has a few fields, and each takes at most 65,538 bytes: for a cue a million is a bound that leaves room
+reading-most : (cs : List Cue) (more index : ℕ) (rest : List ℕ) → Bytes rest → readUpTo more index rest ≡ cues cs → length rest ≤ 1000000 * more
+reading-most [] more index rest b e = omega (arith, ends more index rest e)
+reading-most (c ∷ cs) more index rest b e =
+    let g = begins more index rest c cs e in
+    omega
+    (arith, g .fewer-is, form-most cueForm rest b, length-drop (cueSize rest) rest, reading-most cs (g .fewer) (suc index) (afterCue rest) (bytes-drop rest (cueSize rest) b) (g .then))
+
+-- so its length fits into 32 bits
+pub book-most : (book : List ℕ) → Bytes book → {cs : List Cue} → readBook book ≡ cues cs → length book ≤ 999000000
+unfolding readBook
+book-most book b {cs} e = omega (arith, reading-most cs 999 0 book b e)
 
 -- ---- where cues and titles stand
 
