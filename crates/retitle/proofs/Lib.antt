@@ -1,0 +1,2 @@
+-- The laws of a book with one title replaced.
+pub mod Retitling
