@@ -36,9 +36,13 @@ use Rattle.phrases.specs.Counts.{counts}
 use Rattle.calendar.specs.Calendar.{dayAnswer, dateAnswer}
 use Rattle.cues.specs.declared.Days.{Days}
 use Rattle.cues.specs.declared.Days.the-variants.{Always, Within}
+use Rattle.cues.specs.declared.Mark.{Mark}
+use Rattle.cues.specs.declared.Mark.the-variants.{Unmarked, Open, HouseOnly}
 use Rattle.cues.specs.Cue.{Cue, cueWith}
 use Rattle.cue_book.specs.Book.{bookBytes}
 use Rattle.cue_book.specs.Reading.{Reading, refused, cues, readBook, refusalOf, numberOf}
+use Rattle.cue_book.specs.Places.{titlePart}
+use Rattle.retitle.specs.Retitling.{retitled, retitleRefusal, retitleAnswer}
 use Rattle.outcome.specs.Outcome.{chosenFrom, chosen, groups, Resolution, resolution, outcome}
 
 -- a row: what is asked, and the answer that the document gives
@@ -67,18 +71,20 @@ pub data Case : Type 0 where
   -- a date by year, month and day, and the two numbers that its day is given back by; and a day, and the four numbers that its date is
   day : ℕ → ℕ → ℕ → ℕ → ℕ → Case
   date : ℕ → ℕ → ℕ → ℕ → ℕ → Case
+  -- a book's bytes, a cue's index, a title and a buffer's length: the two numbers that writing the book anew with this title gives back, and the new book
+  retitle : List ℕ → ℕ → List ℕ → ℕ → ℕ → ℕ → List ℕ → Case
   -- a refused book's bytes, the refusal and the index of its cue
   refusedBook : List ℕ → ℕ → ℕ → Case
-  -- a day, a page, a book and a text, the three numbers that resolving gives back, and the entries written; the memory lent is just enough for one cue
-  resolve : ℕ → ℕ → List ℕ → List ℕ → ℕ → ℕ → ℕ → List ℕ → Case
+  -- a role, a day, a page, a book and a text, the three numbers that resolving gives back, and the entries written; the memory lent is just enough for one cue
+  resolve : ℕ → ℕ → ℕ → List ℕ → List ℕ → ℕ → ℕ → ℕ → List ℕ → Case
   -- phrases and a text, and at each letter the number of the phrases that end there, by what was read and by the states' steps
   ended : List (List ℕ) → List ℕ → List ℕ → Case
   -- phrases, a text and an ordinal for each phrase: what is left of the ordinals, and the places, where 9 stood before
   counted : List (List ℕ) → List ℕ → List ℕ → List ℕ → List ℕ → Case
   -- the groups of cues by the lengths of their phrases: so many cues of each length, and how many cues each group has
   grouping : List (ℕ × ℕ) → List ℕ → Case
-  -- a day, a text, and the cues of a book, by page 1's fold: the three numbers and the entries that come of them
-  judged : ℕ → List ℕ → List Cue → ℕ → ℕ → ℕ → List ℕ → Case
+  -- a role, a day, a text, and the cues of a book, by page 1's fold: the three numbers and the entries that come of them
+  judged : ℕ → ℕ → List ℕ → List Cue → ℕ → ℕ → ℕ → List ℕ → Case
 
 -- the entry given to a letter, or the entry of the others
 unfoldable pub given : List ℕ → List ℕ → ℕ → ℕ → ℕ
@@ -91,12 +97,15 @@ unfoldable pub movesFrom : ℕ → List ℕ → List ℕ
 movesFrom q [] = []
 movesFrom q (b ∷ entries) = (suc q - b) ∷ movesFrom (suc q) entries
 
--- a cue that plays always, and the same one from a first to a last day
+-- a cue that plays always and has no mark, the same one from a first to a last day, and with a mark
 abbrev pub always : List ℕ → ℕ → List ℕ → Cue
-always phrase ordinal title = cueWith phrase ordinal title Always
+always phrase ordinal title = cueWith phrase ordinal title Always Unmarked
 
 abbrev pub within : Cue → ℕ → ℕ → Cue
-within c first last = cueWith (c .phrase) (c .ordinal) (c .title) (Within first last)
+within c first last = cueWith (c .phrase) (c .ordinal) (c .title) (Within first last) (c .mark)
+
+abbrev pub marked : Cue → Mark → Cue
+marked c mark = cueWith (c .phrase) (c .ordinal) (c .title) (c .days) mark
 
 -- the same days
 unfoldable pub sameDays : Days → Days → Bool
@@ -105,13 +114,19 @@ sameDays Always (Within first last) = false
 sameDays (Within first last) Always = false
 sameDays (Within first last) (Within first′ last′) = eqb first first′ && eqb last last′
 
+-- the same marks, by a number for each
+abbrev pub markNumber : Mark → ℕ
+markNumber Unmarked = 0
+markNumber Open = 1
+markNumber HouseOnly = 2
+
 -- the same cues, field by field
 unfoldable pub sameCues : List Cue → List Cue → Bool
 unfolding same sameDays
 sameCues [] [] = true
 sameCues [] (d ∷ ds) = false
 sameCues (c ∷ cs) [] = false
-sameCues (c ∷ cs) (d ∷ ds) = same (c .phrase) (d .phrase) && eqb (c .ordinal) (d .ordinal) && same (c .title) (d .title) && sameDays (c .days) (d .days) && sameCues cs ds
+sameCues (c ∷ cs) (d ∷ ds) = same (c .phrase) (d .phrase) && eqb (c .ordinal) (d .ordinal) && same (c .title) (d .title) && sameDays (c .days) (d .days) && eqb (markNumber (c .mark)) (markNumber (d .mark)) && sameCues cs ds
 
 -- a reading of exactly these cues
 unfoldable pub readsAs : Reading → List Cue → Bool
@@ -141,7 +156,7 @@ cuesOfLengths (n ∷ ns) = replicate (n .0) (always (replicate (n .1) 97) 1 []) 
 
 -- a row holds: the definitions give its answer
 unfoldable pub holds : Case → Bool
-unfolding same tabulate lastIn gap widest widestAt kmpEntry maxShift shift given movesFrom occurrences runFrom positionsIn compared window movesIn numbers bm.window improved.window relisted letterAnswer dayAnswer dateAnswer readsAs readBook bookBytes comesTo outcome resolution chosenFrom groups cuesOfLengths endings state phrases.numbers counts
+unfolding same tabulate lastIn gap widest widestAt kmpEntry maxShift shift given movesFrom occurrences runFrom positionsIn compared window movesIn numbers bm.window improved.window relisted letterAnswer dayAnswer dateAnswer readsAs readBook bookBytes titlePart retitleRefusal comesTo outcome resolution chosenFrom groups cuesOfLengths endings state phrases.numbers counts
 holds (kmpEntries P entries moves) = same (kmpTable P) entries && same (movesFrom 0 (kmpTable P)) moves
 holds (sundayEntries P letters entries others) = same (sundayTable P) (tabulate 256 (given letters entries others))
 holds (horspoolEntries P letters entries others) = same (horspoolTable P) (tabulate 256 (given letters entries others))
@@ -155,15 +170,17 @@ holds (fold page letter refusal number) = eqb (letterAnswer page letter .refusal
 holds (book bytes cs) = readsAs (readBook bytes) cs && same (bookBytes cs) bytes
 holds (day year month d refusal number) = eqb (dayAnswer year month d .refusal) refusal && eqb (dayAnswer year month d .number) number
 holds (date n refusal year month d) = eqb (dateAnswer n .refusal) refusal && eqb (dateAnswer n .year) year && eqb (dateAnswer n .month) month && eqb (dateAnswer n .day) d
+holds (retitle bytes index title capacity refusal number anew) =
+    eqb (retitleAnswer bytes index title capacity .refusal) refusal && eqb (retitleAnswer bytes index title capacity .number) number && same (cond (eqb refusal 0) (retitled bytes index title) []) anew
 holds (refusedBook bytes refusal index) = eqb (refusalOf (readBook bytes)) refusal && eqb (numberOf (readBook bytes)) index
-holds (resolve on page bytes T refusal number reads entries) =
-    comesTo (outcome (foldOn page) (record { day = on; page = page; text = T; copy = length T; scratch = 65535; entries = 3 }) (readBook bytes) .resolution) refusal number reads entries
+holds (resolve role on page bytes T refusal number reads entries) =
+    comesTo (outcome (foldOn page) (record { who = record { role = role; day = on }; page = page; text = T; copy = length T; scratch = 65535; entries = 3 }) (readBook bytes) .resolution) refusal number reads entries
 holds (ended ps T es) = same (endings ps [] T) es && same (phrases.numbers (step ps) [] T) es
 holds (counted ps T ordinals left places) =
     let c = counts 0 (map length ps) (endings ps [] T) (record { left = ordinals; place = replicate (length ps) 9 }) in
     same (c .left) left && same (c .place) places
 holds (grouping lengths sizes) = same (map length (groups (cuesOfLengths lengths))) sizes
-holds (judged on T cs refusal number reads entries) = comesTo (resolution (foldOn 1) T (chosen on cs)) refusal number reads entries
+holds (judged role on T cs refusal number reads entries) = comesTo (resolution (foldOn 1) T (chosen (record { role = role; day = on }) cs)) refusal number reads entries
 
 -- every row holds
 unfoldable pub allHold : List Case → Bool
@@ -225,6 +242,14 @@ laNo = 0x01 ∷ 0x00 ∷ 0x02 ∷ 0x6C ∷ 0x61 ∷ 0x02 ∷ 0x00 ∷ 0x02 ∷ 0
 -- dates of these four bytes: the first day and the last, high byte first
 abbrev dates : ℕ → ℕ → ℕ → ℕ → List ℕ
 dates a b c d = 0x04 ∷ 0x00 ∷ 0x04 ∷ a ∷ b ∷ c ∷ d ∷ []
+
+-- a house field of this byte
+abbrev house : ℕ → List ℕ
+house a = 0x05 ∷ 0x00 ∷ 0x01 ∷ a ∷ []
+
+-- the cue of that book
+abbrev laNoCue : Cue
+laNoCue = always la 2 (78 ∷ 111 ∷ [])
 
 -- a book of one cue: the first Œ of ISO 8859-15, and no title
 abbrev oe : List ℕ
@@ -297,12 +322,12 @@ cases =
     ∷ fold 2 0xC9 14 0
     ∷ fold 16 0xC9 14 0
     ∷ book laNo (always la 2 (78 ∷ 111 ∷ []) ∷ [])
-    ∷ resolve 0 1 laNo (la ++ 10 ∷ la) 0 1 5 (3 ∷ 2 ∷ 1 ∷ [])
-    ∷ resolve 0 1 laNo la 12 0 2 []
-    ∷ resolve 0 15 oe (la ++ 0xBD ∷ []) 0 1 3 (2 ∷ 1 ∷ 3 ∷ [])
-    ∷ resolve 0 1 oe (la ++ 0xBD ∷ []) 12 0 3 []
-    ∷ resolve 0 0 oe (la ++ 0xBD ∷ []) 14 0 0 []
-    ∷ resolve 0 1 [] la 0 0 0 []
+    ∷ resolve 0 0 1 laNo (la ++ 10 ∷ la) 0 1 5 (3 ∷ 2 ∷ 1 ∷ [])
+    ∷ resolve 0 0 1 laNo la 12 0 2 []
+    ∷ resolve 0 0 15 oe (la ++ 0xBD ∷ []) 0 1 3 (2 ∷ 1 ∷ 3 ∷ [])
+    ∷ resolve 0 0 1 oe (la ++ 0xBD ∷ []) 12 0 3 []
+    ∷ resolve 0 0 0 oe (la ++ 0xBD ∷ []) 14 0 0 []
+    ∷ resolve 0 0 1 [] la 0 0 0 []
     ∷ day 2000 1 1 0 0
     ∷ day 2000 2 29 0 59
     ∷ day 2000 12 31 0 365
@@ -329,13 +354,44 @@ cases =
     ∷ refusedBook (laNo ++ 4 ∷ 0 ∷ 3 ∷ []) 9 0
     ∷ refusedBook (laNo ++ 4 ∷ 0 ∷ 4 ∷ 0x8E ∷ 0xAD ∷ 0 ∷ []) 7 0
     ∷ refusedBook (laNo ++ 4 ∷ 0 ∷ []) 7 0
-    ∷ resolve 9468 1 (laNo ++ dates 0x24 0xFC 0x25 0x1A) (la ++ 10 ∷ la) 0 1 5 (3 ∷ 2 ∷ 1 ∷ [])
-    ∷ resolve 9498 1 (laNo ++ dates 0x24 0xFC 0x25 0x1A) (la ++ 10 ∷ la) 0 1 5 (3 ∷ 2 ∷ 1 ∷ [])
-    ∷ resolve 9467 1 (laNo ++ dates 0x24 0xFC 0x25 0x1A) (la ++ 10 ∷ la) 0 0 0 []
-    ∷ resolve 9499 1 (laNo ++ dates 0x24 0xFC 0x25 0x1A) (la ++ 10 ∷ la) 0 0 0 []
-    ∷ resolve 9499 1 (laNo ++ dates 0x24 0xFC 0x25 0x1A ++ laNo) la 12 1 2 []
-    ∷ resolve 36524 1 laNo (la ++ 10 ∷ la) 0 1 5 (3 ∷ 2 ∷ 1 ∷ [])
-    ∷ resolve 36525 0 laNo (la ++ 10 ∷ la) 16 0 0 []
+    ∷ resolve 0 9468 1 (laNo ++ dates 0x24 0xFC 0x25 0x1A) (la ++ 10 ∷ la) 0 1 5 (3 ∷ 2 ∷ 1 ∷ [])
+    ∷ resolve 0 9498 1 (laNo ++ dates 0x24 0xFC 0x25 0x1A) (la ++ 10 ∷ la) 0 1 5 (3 ∷ 2 ∷ 1 ∷ [])
+    ∷ resolve 0 9467 1 (laNo ++ dates 0x24 0xFC 0x25 0x1A) (la ++ 10 ∷ la) 0 0 0 []
+    ∷ resolve 0 9499 1 (laNo ++ dates 0x24 0xFC 0x25 0x1A) (la ++ 10 ∷ la) 0 0 0 []
+    ∷ resolve 0 9499 1 (laNo ++ dates 0x24 0xFC 0x25 0x1A ++ laNo) la 12 1 2 []
+    ∷ resolve 0 36524 1 laNo (la ++ 10 ∷ la) 0 1 5 (3 ∷ 2 ∷ 1 ∷ [])
+    ∷ resolve 0 36525 0 laNo (la ++ 10 ∷ la) 16 0 0 []
+    ∷ book (laNo ++ house 0) (marked laNoCue Open ∷ [])
+    ∷ book (laNo ++ house 1) (marked laNoCue HouseOnly ∷ [])
+    ∷ book (laNo ++ dates 0 1 0 2 ++ house 1 ++ laNo ++ house 0 ++ laNo) (marked (within laNoCue 1 2) HouseOnly ∷ marked laNoCue Open ∷ laNoCue ∷ [])
+    ∷ refusedBook (laNo ++ house 2) 9 0
+    ∷ refusedBook (laNo ++ laNo ++ house 255) 9 1
+    ∷ refusedBook (laNo ++ 5 ∷ 0 ∷ 2 ∷ []) 9 0
+    ∷ refusedBook (laNo ++ 5 ∷ 0 ∷ 0 ∷ []) 9 0
+    ∷ refusedBook (laNo ++ 5 ∷ 0 ∷ 1 ∷ []) 7 0
+    ∷ refusedBook (laNo ++ 5 ∷ []) 7 0
+    ∷ refusedBook (laNo ++ house 1 ++ dates 0 1 0 2) 8 1
+    ∷ refusedBook (laNo ++ house 1 ++ house 1) 8 1
+    ∷ refusedBook (laNo ++ dates 0 2 0 1 ++ house 2) 16 0
+    ∷ retitle laNo 0 wordA 14 0 14 (0x01 ∷ 0x00 ∷ 0x02 ∷ 0x6C ∷ 0x61 ∷ 0x02 ∷ 0x00 ∷ 0x02 ∷ 0x00 ∷ 0x02 ∷ 0x03 ∷ 0x00 ∷ 0x01 ∷ 0x61 ∷ [])
+    ∷ retitle (laNo ++ dates 0 1 0 2 ++ house 0) 0 (78 ∷ 111 ∷ []) 26 0 26 (laNo ++ dates 0 1 0 2 ++ house 0)
+    ∷ retitle (oe ++ house 1 ++ oe ++ house 0 ++ laNo) 1 wordA 48 0 48 (oe ++ house 1 ++ 0x01 ∷ 0x00 ∷ 0x01 ∷ 0xBC ∷ 0x02 ∷ 0x00 ∷ 0x02 ∷ 0x00 ∷ 0x01 ∷ 0x03 ∷ 0x00 ∷ 0x01 ∷ 0x61 ∷ [] ++ house 0 ++ laNo)
+    ∷ retitle laNo 0 wordA 13 13 0 []
+    ∷ retitle laNo 1 wordA 13 12 0 []
+    ∷ retitle laNo 1 (replicate 201 97) 13 9 0 []
+    ∷ retitle (laNo ++ house 2) 1 (replicate 201 97) 13 9 0 []
+    ∷ retitle (laNo ++ laNo ++ dates 0 2 0 1) 9 (replicate 201 97) 0 16 1 []
+    ∷ resolve 0 0 1 (laNo ++ house 1) (la ++ 10 ∷ la) 0 1 5 (3 ∷ 2 ∷ 1 ∷ [])
+    ∷ resolve 2 0 1 (laNo ++ house 1) (la ++ 10 ∷ la) 0 0 0 []
+    ∷ resolve 2 0 1 (laNo ++ house 0) (la ++ 10 ∷ la) 0 1 5 (3 ∷ 2 ∷ 1 ∷ [])
+    ∷ resolve 2 0 1 (laNo ++ house 1 ++ laNo) (la ++ 10 ∷ la) 0 1 5 (3 ∷ 2 ∷ 1 ∷ [])
+    ∷ resolve 0 0 1 (laNo ++ house 1 ++ laNo) (la ++ 10 ∷ la) 11 0 0 []
+    ∷ resolve 2 0 1 (laNo ++ house 1 ++ laNo) la 12 0 2 []
+    ∷ resolve 2 0 1 (laNo ++ house 1 ++ laNo ++ house 2) la 9 1 0 []
+    ∷ resolve 1 0 1 laNo (la ++ 10 ∷ la) 19 0 0 []
+    ∷ resolve 1 36525 0 (laNo ++ house 2) (la ++ 10 ∷ la) 19 0 0 []
+    ∷ resolve 3 36525 0 laNo (la ++ 10 ∷ la) 19 0 0 []
+    ∷ resolve 2 36525 0 laNo (la ++ 10 ∷ la) 16 0 0 []
     ∷ ended heSheHisHers ushers (0 ∷ 0 ∷ 0 ∷ 3 ∷ 0 ∷ 8 ∷ [])
     ∷ ended (wordA ∷ aba ∷ wordA ∷ []) (aba ++ aba) (5 ∷ 0 ∷ 7 ∷ 5 ∷ 0 ∷ 7 ∷ [])
     ∷ counted heSheHisHers ushers (1 ∷ 1 ∷ 1 ∷ 1 ∷ []) (0 ∷ 0 ∷ 1 ∷ 0 ∷ []) (2 ∷ 1 ∷ 9 ∷ 2 ∷ [])
@@ -349,18 +405,23 @@ cases =
     ∷ grouping ((4, 1024) ∷ (1, 1) ∷ []) (4 ∷ 1 ∷ [])
     ∷ grouping ((3, 1024) ∷ (1, 1023) ∷ (2, 1) ∷ []) (5 ∷ 1 ∷ [])
     ∷ grouping ((64, 64) ∷ (1, 1) ∷ []) (64 ∷ 1 ∷ [])
-    ∷ judged 0 aba (always ab 1 [] ∷ always wordB 1 [] ∷ always wordA 2 [] ∷ []) 0 3 3 (0 ∷ 1 ∷ 1 ∷ 1 ∷ 1 ∷ 2 ∷ 2 ∷ 1 ∷ 3 ∷ [])
-    ∷ judged 0 aba (always wordA 1 [] ∷ always wordB 2 [] ∷ asFrom 1 63) 12 1 3 (0 ∷ 1 ∷ 1 ∷ [])
-    ∷ judged 0 (replicate 65 97) (asFrom 1 64 ++ always wordA 66 [] ∷ []) 12 64 130 (inARow 0 64)
-    ∷ judged 0 (replicate 65 97) (asFrom 1 65) 0 65 130 (inARow 0 65)
-    ∷ judged 0 (replicate 65 97) (asFrom 1 64 ++ always wordA 64 [] ∷ []) 15 64 130 (inARow 0 64)
-    ∷ judged 0 aba (always wordA 2 [] ∷ always ab 1 [] ∷ []) 15 1 3 (2 ∷ 1 ∷ 3 ∷ [])
-    ∷ judged 0 aba (always wordA 1 [] ∷ always ab 1 [] ∷ []) 15 1 3 (0 ∷ 1 ∷ 1 ∷ [])
-    ∷ judged 0 aba (always wordA 1 [] ∷ always wordA 2 [] ∷ always wordB 1 [] ∷ []) 15 2 3 (0 ∷ 1 ∷ 1 ∷ 2 ∷ 1 ∷ 3 ∷ [])
-    ∷ judged 0 aba (always wordA 2 [] ∷ always wordB 2 [] ∷ always wordB 1 [] ∷ []) 12 1 3 (2 ∷ 1 ∷ 3 ∷ [])
-    ∷ judged 0 aba (always wordA 2 [] ∷ always wordB 1 [] ∷ always wordB 2 [] ∷ []) 15 1 3 (2 ∷ 1 ∷ 3 ∷ [])
-    ∷ judged 5 aba (within (always wordC 1 []) 0 4 ∷ always wordA 1 [] ∷ within (always wordA 2 []) 6 9 ∷ within (always wordB 1 []) 5 5 ∷ []) 0 2 3 (0 ∷ 1 ∷ 1 ∷ 1 ∷ 1 ∷ 2 ∷ [])
-    ∷ judged 5 aba (within (always wordC 1 []) 0 4 ∷ always wordA 1 [] ∷ within (always wordA 2 []) 6 9 ∷ within (always wordC 1 []) 0 5 ∷ []) 12 3 3 (0 ∷ 1 ∷ 1 ∷ [])
-    ∷ judged 5 aba (within (always wordC 1 []) 0 4 ∷ always wordA 2 [] ∷ within (always wordA 1 []) 6 9 ∷ within (always wordB 1 []) 5 6 ∷ []) 15 3 3 (2 ∷ 1 ∷ 3 ∷ [])
-    ∷ judged 5 (replicate 65 97) (map (λ c. within c 6 6) (asFrom 1 64) ++ asFrom 1 64) 0 64 65 (inARow 0 64)
+    ∷ judged 0 0 aba (always ab 1 [] ∷ always wordB 1 [] ∷ always wordA 2 [] ∷ []) 0 3 3 (0 ∷ 1 ∷ 1 ∷ 1 ∷ 1 ∷ 2 ∷ 2 ∷ 1 ∷ 3 ∷ [])
+    ∷ judged 0 0 aba (always wordA 1 [] ∷ always wordB 2 [] ∷ asFrom 1 63) 12 1 3 (0 ∷ 1 ∷ 1 ∷ [])
+    ∷ judged 0 0 (replicate 65 97) (asFrom 1 64 ++ always wordA 66 [] ∷ []) 12 64 130 (inARow 0 64)
+    ∷ judged 0 0 (replicate 65 97) (asFrom 1 65) 0 65 130 (inARow 0 65)
+    ∷ judged 0 0 (replicate 65 97) (asFrom 1 64 ++ always wordA 64 [] ∷ []) 15 64 130 (inARow 0 64)
+    ∷ judged 0 0 aba (always wordA 2 [] ∷ always ab 1 [] ∷ []) 15 1 3 (2 ∷ 1 ∷ 3 ∷ [])
+    ∷ judged 0 0 aba (always wordA 1 [] ∷ always ab 1 [] ∷ []) 15 1 3 (0 ∷ 1 ∷ 1 ∷ [])
+    ∷ judged 0 0 aba (always wordA 1 [] ∷ always wordA 2 [] ∷ always wordB 1 [] ∷ []) 15 2 3 (0 ∷ 1 ∷ 1 ∷ 2 ∷ 1 ∷ 3 ∷ [])
+    ∷ judged 0 0 aba (always wordA 2 [] ∷ always wordB 2 [] ∷ always wordB 1 [] ∷ []) 12 1 3 (2 ∷ 1 ∷ 3 ∷ [])
+    ∷ judged 0 0 aba (always wordA 2 [] ∷ always wordB 1 [] ∷ always wordB 2 [] ∷ []) 15 1 3 (2 ∷ 1 ∷ 3 ∷ [])
+    ∷ judged 0 5 aba (within (always wordC 1 []) 0 4 ∷ always wordA 1 [] ∷ within (always wordA 2 []) 6 9 ∷ within (always wordB 1 []) 5 5 ∷ []) 0 2 3 (0 ∷ 1 ∷ 1 ∷ 1 ∷ 1 ∷ 2 ∷ [])
+    ∷ judged 0 5 aba (within (always wordC 1 []) 0 4 ∷ always wordA 1 [] ∷ within (always wordA 2 []) 6 9 ∷ within (always wordC 1 []) 0 5 ∷ []) 12 3 3 (0 ∷ 1 ∷ 1 ∷ [])
+    ∷ judged 0 5 aba (within (always wordC 1 []) 0 4 ∷ always wordA 2 [] ∷ within (always wordA 1 []) 6 9 ∷ within (always wordB 1 []) 5 6 ∷ []) 15 3 3 (2 ∷ 1 ∷ 3 ∷ [])
+    ∷ judged 0 5 (replicate 65 97) (map (λ c. within c 6 6) (asFrom 1 64) ++ asFrom 1 64) 0 64 65 (inARow 0 64)
+    ∷ judged 2 5 aba (marked (always wordC 1 []) HouseOnly ∷ always wordA 1 [] ∷ marked (always wordA 2 []) HouseOnly ∷ marked (always wordB 1 []) Open ∷ []) 0 2 3 (0 ∷ 1 ∷ 1 ∷ 1 ∷ 1 ∷ 2 ∷ [])
+    ∷ judged 0 5 aba (marked (always wordC 1 []) HouseOnly ∷ always wordA 1 [] ∷ marked (always wordA 2 []) HouseOnly ∷ marked (always wordB 1 []) Open ∷ []) 12 0 3 []
+    ∷ judged 2 5 aba (marked (always wordC 1 []) HouseOnly ∷ always wordA 1 [] ∷ within (always wordA 2 []) 6 9 ∷ always wordC 1 [] ∷ []) 12 2 3 (0 ∷ 1 ∷ 1 ∷ [])
+    ∷ judged 2 5 aba (always wordA 2 [] ∷ marked (always wordB 1 []) HouseOnly ∷ within (marked (always wordA 1 []) Open) 6 9 ∷ always wordA 1 [] ∷ []) 15 2 3 (2 ∷ 1 ∷ 3 ∷ [])
+    ∷ judged 2 5 (replicate 65 97) (map (λ c. marked c HouseOnly) (asFrom 1 64) ++ asFrom 1 64) 0 64 65 (inARow 0 64)
     ∷ []

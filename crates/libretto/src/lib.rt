@@ -1,6 +1,6 @@
 // This crate is the C interface: each function is exported under the name that include/libretto.h gives it, and carries the exact contract of what it wraps.
 // `rt staticlib libretto` makes the archive that C and Rust link.
-// It depends on `find`, `fjs`, `late_cuts`, `fold`, `calendar`, `plain`, `cue_book` and `resolver` for what it exports, on `fjs_steps`, `cuts`, `cues` and `cue_writer` for what a find by FJS, a cut, a cue and one that is written are, and on `matching` for a finding and an answer.
+// It depends on `find`, `fjs`, `late_cuts`, `fold`, `calendar`, `book_calls` and `resolver` for what it exports, on `fjs_steps`, `cuts`, `cues`, `cue_book`, `cue_writer`, `plain`, `retitle` and `roles` for what a find by FJS, a cut, a cue, a part of a book, a cue that is written, a cue as numbers, a book with another title and what a role may do are, and on `matching` for a finding and an answer.
 use calendar::CalendarDate;
 use cue_book::Part;
 use fjs::MovesFinding;
@@ -21,10 +21,12 @@ ghost use Rattle.fold.specs.Fold.{letterAnswer, LettersFolded};
 ghost use Rattle.calendar.specs.Calendar.{dayAnswer, dateAnswer};
 ghost use Rattle.cues.specs.Cue.{cueWith};
 ghost use Rattle.cues.specs.Places.{cueAt};
-ghost use Rattle.cue_book.specs.Places.{bookAnswer, TitlePlaced};
-ghost use Rattle.cue_writer.specs.Writing.{Written};
+ghost use Rattle.roles.specs.Roles.{mayAll, mayRetitle};
+ghost use Rattle.cue_writer.specs.Writing.{markGiven, Written};
+ghost use Rattle.retitle.specs.Retitling.{Retitled};
+ghost use Rattle.book_calls.specs.Calls.{fieldFor, cueFor, bookFor, TitlePlacedFor, Allowed};
 ghost use Rattle.resolver.specs.Resolver.{Resolved};
-ghost use Rattle.plain.specs.Plain.{fieldDue, fieldPassed, cuePassed, daysGiven};
+ghost use Rattle.plain.specs.Plain.{fieldDue, daysGiven};
 
 // A find by a method number. Slices pass as pointer and length, the finding as a struct of three 32-bit numbers.
 #[no_mangle]
@@ -104,41 +106,43 @@ pub extern "C" fn libretto_date(day: u32) -> CalendarDate
     calendar::date(day)
 }
 
-// The field that a number names by its tag, read at a place of a book.
+// The field that a number names by its tag, read at a place of a book, for the operator; 19 alone for another role.
 #[no_mangle]
-pub extern "C" fn libretto_read_field(book: &[u8], place: usize, due: u32) -> PlainField
-    ensures { λ r. ⌜ r ≡ fieldPassed (fieldDue (now (book .entry)) place due) ⌝ }
+pub extern "C" fn libretto_read_field(role: u32, book: &[u8], place: usize, due: u32) -> PlainField
+    ensures { λ r. ⌜ r ≡ fieldFor role (fieldDue (now (book .entry)) place due) ⌝ }
 {
-    plain::read_field(book, place, due)
+    book_calls::read_field(role, book, place, due)
 }
 
-// A cue read at a place of a book.
+// A cue read at a place of a book, for the operator; 19 and zeros for another role.
 #[no_mangle]
-pub extern "C" fn libretto_read_cue(book: &[u8], place: usize) -> PlainCue
-    ensures { λ r. ⌜ r ≡ cuePassed (cueAt (now (book .entry)) place) ⌝ }
+pub extern "C" fn libretto_read_cue(role: u32, book: &[u8], place: usize) -> PlainCue
+    ensures { λ r. ⌜ r ≡ cueFor role (cueAt (now (book .entry)) place) ⌝ }
 {
-    plain::read_cue(book, place)
+    book_calls::read_cue(role, book, place)
 }
 
-// A book read: 0 and its number of cues, or the refusal and the cue's index. An answer passes as a struct of two 32-bit numbers.
+// A book read, for the operator: 0 and its number of cues, or the refusal and the cue's index; 19 and 0 for another role. An answer passes as a struct of two 32-bit numbers.
 #[no_mangle]
-pub extern "C" fn libretto_read_book(book: &[u8]) -> Answer
-    ensures { λ r. ⌜ r ≡ bookAnswer (now (book .entry)) ⌝ }
+pub extern "C" fn libretto_read_book(role: u32, book: &[u8]) -> Answer
+    ensures { λ r. ⌜ r ≡ bookFor role (now (book .entry)) ⌝ }
 {
-    cue_book::read_book(book)
+    book_calls::read_book(role, book)
 }
 
-// Where a cue's title stands in the book, as a struct of a start and a length.
+// Where a cue's title stands in the book, for the operator, as a struct of a start and a length; the empty part at the book's front for another role.
 #[no_mangle]
-pub extern "C" fn libretto_title(book: &[u8], cue: u32) -> Part
-    ensures { λ r. ⌜ TitlePlaced (now (book .entry)) cue r ⌝ }
+pub extern "C" fn libretto_title(role: u32, book: &[u8], cue: u32) -> Part
+    ensures { λ r. ⌜ TitlePlacedFor role (now (book .entry)) cue r ⌝ }
 {
-    cue_book::title_part(book, cue)
+    book_calls::title_part(role, book, cue)
 }
 
-// A cue written at the buffer's start, without dates where `dated` is 0, and else with these two days: 0 and its length, or the refusal and 0.
+// A cue written at the buffer's start, for the operator, without dates where `dated` is 0, and else with these two days, open where `house` is 0 and for the house only where it is 1: 0 and its length, or the
+// refusal and 0.
 #[no_mangle]
 pub extern "C" fn libretto_write_cue(
+    role: u32,
     buffer: &mut [u8],
     phrase: &[u8],
     ordinal: u32,
@@ -146,16 +150,42 @@ pub extern "C" fn libretto_write_cue(
     dated: u32,
     first: u32,
     last: u32,
+    house: u32,
 ) -> Answer
-    ensures { λ r. ⌜ Written (cueWith (now (phrase .entry)) ordinal (now (title .entry)) (daysGiven dated first last)) (now (buffer .entry)) r (now (buffer .exit)) ⌝ }
+    ensures { λ r. ⌜ Allowed (mayAll role) (Written (cueWith (now (phrase .entry)) ordinal (now (title .entry)) (daysGiven dated first last) (markGiven house)) house (now (buffer .entry)) r (now (buffer .exit))) (now (buffer .entry)) r (now (buffer .exit)) ⌝ }
 {
-    plain::write_cue(buffer, phrase, ordinal, title, dated, first, last)
+    book_calls::write_cue(
+        role,
+        buffer,
+        phrase,
+        ordinal,
+        title,
+        dated,
+        first,
+        last,
+        house,
+    )
 }
 
-// The cues of a book that play on a day resolved in a text, both folded by a page: 0 and the number of these cues, or the refusal and its number; and the letters of the text that were read. It passes as a
-// struct of three 32-bit numbers.
+// A book written anew at the buffer's start with another title at a cue, for the operator and a translator: 0 and its length, or the refusal and its number.
+#[no_mangle]
+pub extern "C" fn libretto_retitle(
+    role: u32,
+    book: &[u8],
+    cue: u32,
+    title: &[u8],
+    buffer: &mut [u8],
+) -> Answer
+    ensures { λ r. ⌜ Allowed (mayRetitle role) (Retitled (now (book .entry)) cue (now (title .entry)) (now (buffer .entry)) r (now (buffer .exit))) (now (buffer .entry)) r (now (buffer .exit)) ⌝ }
+{
+    book_calls::retitle(role, book, cue, title, buffer)
+}
+
+// The cues of a book that a role sees and that play on a day resolved in a text, both folded by a page, for the operator and a guest: 0 and the number of these cues, or the refusal and its number; and the
+// letters of the text that were read. It passes as a struct of three 32-bit numbers.
 #[no_mangle]
 pub extern "C" fn libretto_resolve(
+    role: u32,
     day: u32,
     page: u32,
     book: &[u8],
@@ -164,7 +194,7 @@ pub extern "C" fn libretto_resolve(
     scratch: &mut [u16],
     entries: &mut [u32],
 ) -> Resolving
-    ensures { λ r. ⌜ Resolved day page (now (book .entry)) (now (text .entry)) (now (copy .entry)) (now (scratch .entry)) (now (entries .entry)) r (now (copy .exit)) (now (scratch .exit)) (now (entries .exit)) ⌝ }
+    ensures { λ r. ⌜ Resolved (record { role = role; day = day }) page (now (book .entry)) (now (text .entry)) (now (copy .entry)) (now (scratch .entry)) (now (entries .entry)) r (now (copy .exit)) (now (scratch .exit)) (now (entries .exit)) ⌝ }
 {
-    resolver::resolve(day, page, book, text, copy, scratch, entries)
+    resolver::resolve(role, day, page, book, text, copy, scratch, entries)
 }

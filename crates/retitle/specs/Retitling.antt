@@ -71,6 +71,7 @@ titled title c =
       ordinal = c .ordinal;
       title = title;
       days = c .days;
+      mark = c .mark;
     }
 
 -- these bytes read as the book does, but that the cue of that index has this title

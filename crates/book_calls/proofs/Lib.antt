@@ -1,0 +1,2 @@
+-- A role by the test that was made of it.
+pub mod Roles
