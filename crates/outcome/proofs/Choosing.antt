@@ -7,7 +7,7 @@ use mathlib.Core.List.{List, [], _∷_, _++_}
 use lib.ListN.{length, length-map}
 use Rattle.matching.specs.Joined.{those}
 use Rattle.matching.proofs.CaseAnalysis.{by-test}
-use Rattle.matching.proofs.Those.{those-next, those-skip, those-all, those-sound, those-stands}
+use Rattle.matching.proofs.Those.{those-append, those-next, those-skip, those-all, those-sound, those-stands}
 use Rattle.roles.specs.Roles.{operator, guest}
 use Rattle.cues.specs.declared.Mark.{Mark}
 use Rattle.cues.specs.declared.Mark.the-variants.{Unmarked, Open, HouseOnly}
@@ -147,8 +147,14 @@ guest-sees (c ∷ cs) = ap₂ (λ (t : Bool) (l : List Cue). cond t (c ∷ l) l)
     open-seen Open = refl
     open-seen HouseOnly = refl
 
--- the cues chosen are those that the role sees and that play
 module _ (who : Choice) where
+  -- a cue that the role does not see has no part in what is chosen, nor in any number, wherever it stands
+  pub unseen : (before : List Cue) (c : Cue) (later : List Cue) → seenBy (who .role) c ≡ false → chosen who (before ++ c ∷ later) ≡ chosen who (before ++ later)
+  unseen before c later e =
+      let sees : Cue → Bool = seenBy (who .role) in
+      ap (chosenFrom (who .day) 0) (those-append sees before (c ∷ later) ∙ ap (λ (l : List Cue). those sees before ++ l) (those-skip sees c later e) ∙ sym (those-append sees before later))
+
+  -- the cues chosen are those that the role sees and that play
   pub chosen-are : (cs : List Cue) → cuesOf (chosen who cs) ≡ playingFor who cs
   chosen-are cs = chosen-cues (who .day) 0 (seen (who .role) cs)
 
