@@ -1,6 +1,6 @@
 //! The C interface of the library, and the only unsafe code of this crate: one declaration and one call for each function.
 
-use crate::{RawAnswer, RawCue, RawDate, RawField, RawFinding, RawFolding, RawMovesFinding, RawPart, RawResolving, ResolverMemory};
+use crate::{RawAnswer, RawCue, RawDate, RawDays, RawField, RawFinding, RawFolding, RawMovesFinding, RawPart, RawResolving, ResolverMemory};
 
 extern "C" {
     fn libretto_find(
@@ -51,15 +51,16 @@ extern "C" {
 
     fn libretto_date(day: u32) -> RawDate;
 
-    fn libretto_read_field(book: *const u8, book_len: usize, place: usize, due: u32) -> RawField;
+    fn libretto_read_field(role: u32, book: *const u8, book_len: usize, place: usize, due: u32) -> RawField;
 
-    fn libretto_read_cue(book: *const u8, book_len: usize, place: usize) -> RawCue;
+    fn libretto_read_cue(role: u32, book: *const u8, book_len: usize, place: usize) -> RawCue;
 
-    fn libretto_read_book(book: *const u8, book_len: usize) -> RawAnswer;
+    fn libretto_read_book(role: u32, book: *const u8, book_len: usize) -> RawAnswer;
 
-    fn libretto_title(book: *const u8, book_len: usize, cue: u32) -> RawPart;
+    fn libretto_title(role: u32, book: *const u8, book_len: usize, cue: u32) -> RawPart;
 
     fn libretto_write_cue(
+        role: u32,
         buffer: *mut u8,
         buffer_len: usize,
         phrase: *const u8,
@@ -70,9 +71,22 @@ extern "C" {
         dated: u32,
         first: u32,
         last: u32,
+        house: u32,
+    ) -> RawAnswer;
+
+    fn libretto_retitle(
+        role: u32,
+        book: *const u8,
+        book_len: usize,
+        cue: u32,
+        title: *const u8,
+        title_len: usize,
+        buffer: *mut u8,
+        buffer_len: usize,
     ) -> RawAnswer;
 
     fn libretto_resolve(
+        role: u32,
         day: u32,
         page: u32,
         book: *const u8,
@@ -179,53 +193,75 @@ pub(crate) fn date(day: u32) -> RawDate {
 }
 
 /// Calls `libretto_read_field` on a slice.
-pub(crate) fn read_field(book: &[u8], place: usize, due: u32) -> RawField {
+pub(crate) fn read_field(role: u32, book: &[u8], place: usize, due: u32) -> RawField {
     // SAFETY: as for `read_book`; the library accepts any place and any number as well. `RawField` has the layout of the C structure (`repr(C)`, a
     // `u32` and three `usize`, which is `size_t`).
-    unsafe { libretto_read_field(book.as_ptr(), book.len(), place, due) }
+    unsafe { libretto_read_field(role, book.as_ptr(), book.len(), place, due) }
 }
 
 /// Calls `libretto_read_cue` on a slice.
-pub(crate) fn read_cue(book: &[u8], place: usize) -> RawCue {
-    // SAFETY: as for `read_book`; the library accepts any place as well. `RawCue` has the layout of the C structure (`repr(C)`, five `u32` and five
+pub(crate) fn read_cue(role: u32, book: &[u8], place: usize) -> RawCue {
+    // SAFETY: as for `read_book`; the library accepts any place as well. `RawCue` has the layout of the C structure (`repr(C)`, seven `u32` and five
     // `usize`, which is `size_t`).
-    unsafe { libretto_read_cue(book.as_ptr(), book.len(), place) }
+    unsafe { libretto_read_cue(role, book.as_ptr(), book.len(), place) }
 }
 
 /// Calls `libretto_read_book` on a slice.
-pub(crate) fn read_book(book: &[u8]) -> RawAnswer {
+pub(crate) fn read_book(role: u32, book: &[u8]) -> RawAnswer {
     // SAFETY: the pointer comes from a slice and stands beside that slice's own length, so it is not null (also where the slice is empty) and valid
-    // for reading as many bytes; the borrow outlives the call, which keeps no pointer. The library accepts any bytes. `RawAnswer` has the layout of
-    // the C structure (`repr(C)`, two `u32`).
-    unsafe { libretto_read_book(book.as_ptr(), book.len()) }
+    // for reading as many bytes; the borrow outlives the call, which keeps no pointer. The library accepts any role and any bytes. `RawAnswer` has the
+    // layout of the C structure (`repr(C)`, two `u32`).
+    unsafe { libretto_read_book(role, book.as_ptr(), book.len()) }
 }
 
 /// Calls `libretto_title` on a slice.
-pub(crate) fn title(book: &[u8], cue: u32) -> RawPart {
+pub(crate) fn title(role: u32, book: &[u8], cue: u32) -> RawPart {
     // SAFETY: as for `read_book`; the library accepts any index as well. `RawPart` has the layout of the C structure (`repr(C)`, two `usize`, which
     // is `size_t`).
-    unsafe { libretto_title(book.as_ptr(), book.len(), cue) }
+    unsafe { libretto_title(role, book.as_ptr(), book.len(), cue) }
 }
 
 /// Calls `libretto_write_cue` on slices.
-pub(crate) fn write_cue(buffer: &mut [u8], phrase: &[u8], ordinal: u32, title: &[u8], dated: u32, first: u32, last: u32) -> RawAnswer {
+pub(crate) fn write_cue(role: u32, buffer: &mut [u8], phrase: &[u8], ordinal: u32, title: &[u8], days: RawDays, house: u32) -> RawAnswer {
     // SAFETY: each pointer comes from a slice and stands beside that slice's own length, so it is not null (also where the slice is empty) and valid
     // for as many bytes: for reading with phrase and title, for reading and writing with the buffer. The exclusive borrow keeps the buffer apart
-    // from both, and all three borrows outlive the call, which keeps no pointer. The library accepts any ordinal, any days and any lengths.
-    // `RawAnswer` has the layout of the C structure (`repr(C)`, two `u32`).
+    // from both, and all three borrows outlive the call, which keeps no pointer. The library accepts any role, any ordinal, any days, any house and any
+    // lengths. `RawAnswer` has the layout of the C structure (`repr(C)`, two `u32`).
     unsafe {
-        libretto_write_cue(buffer.as_mut_ptr(), buffer.len(), phrase.as_ptr(), phrase.len(), ordinal, title.as_ptr(), title.len(), dated, first, last)
+        libretto_write_cue(
+            role,
+            buffer.as_mut_ptr(),
+            buffer.len(),
+            phrase.as_ptr(),
+            phrase.len(),
+            ordinal,
+            title.as_ptr(),
+            title.len(),
+            days.dated,
+            days.first,
+            days.last,
+            house,
+        )
     }
 }
 
+/// Calls `libretto_retitle` on slices.
+pub(crate) fn retitle(role: u32, book: &[u8], cue: u32, title: &[u8], buffer: &mut [u8]) -> RawAnswer {
+    // SAFETY: as for `write_cue`, with book and title for reading; the library accepts any index as well. `RawAnswer` has the layout of the C structure
+    // (`repr(C)`, two `u32`).
+    unsafe { libretto_retitle(role, book.as_ptr(), book.len(), cue, title.as_ptr(), title.len(), buffer.as_mut_ptr(), buffer.len()) }
+}
+
 /// Calls `libretto_resolve` on slices.
-pub(crate) fn resolve(day: u32, page: u32, book: &[u8], text: &[u8], memory: &mut ResolverMemory<'_>) -> RawResolving {
+pub(crate) fn resolve(role: u32, day: u32, page: u32, book: &[u8], text: &[u8], memory: &mut ResolverMemory<'_>) -> RawResolving {
     // SAFETY: each pointer comes from a slice and stands beside that slice's own length, so it is aligned, not null (also where the slice is
     // empty), and valid for as many entries: for reading with book and text, for reading and writing with the three slices of the memory. The
     // exclusive borrows keep those three apart from each other and from book and text, and all five borrows outlive the call, which keeps no pointer.
-    // The library accepts any day, any page number, any bytes and any lengths. `RawResolving` has the layout of the C structure (`repr(C)`, three `u32`).
+    // The library accepts any role, any day, any page number, any bytes and any lengths. `RawResolving` has the layout of the C structure (`repr(C)`,
+    // three `u32`).
     unsafe {
         libretto_resolve(
+            role,
             day,
             page,
             book.as_ptr(),

@@ -6,11 +6,13 @@
 //! ISO 8859-15. [`find_moves`] also lists by which rule the window of FJS moved. [`relist`] makes a phrase's list for a text in which a stretch is
 //! replaced from its list for the old one.
 //!
-//! A cue book is 0 to 999 cues, each with a phrase, an ordinal and a title, and some with the [`Days`] on which they play, as those of a second cast:
-//! [`write_cue`] writes one, [`read_cue`] reads one, [`read_book`] tests a whole book, and [`title`] shows a title where it stands. [`resolve`] finds the
-//! place, line and column of each cue that plays on a day in a text, in lent memory too, and reads the text once for each group of cues; the cues must
-//! run forward through the text. [`resolve_all`] lends the memory itself. A day is a number: [`day`] gives that of a [`Date`], and [`date`] gives the
-//! date back.
+//! A cue book is 0 to 999 cues, each with a phrase, an ordinal and a title, and some with the [`Days`] on which they play, as those of a second cast, or
+//! with a [`Mark`] that says that they are house only: [`write_cue`] writes one, [`read_cue`] reads one, [`read_book`] tests a whole book, and [`title`]
+//! shows a title where it stands. [`retitle`] writes a book anew with one title replaced. [`resolve`] finds the place, line and column of each cue that
+//! plays on a day in a text, in lent memory too, and reads the text once for each group of cues; the cues must run forward through the text.
+//! [`retitle_all`] and [`resolve_all`] lend the memory themselves. A day is a number: [`day`] gives that of a [`Date`], and [`date`] gives the date back.
+//! Each of these calls on a book or a cue is told the [`Role`] of who makes it: the operator may do all, a translator may retitle, and a guest may resolve
+//! the cues that are not house only.
 //!
 //! ```
 //! use libretto::{find, find_all, Finding, Method, Refusal};
@@ -43,17 +45,21 @@ mod late_cuts;
 mod moves;
 mod refusal;
 mod resolver;
+mod retitle;
+mod role;
 
 pub use calendar::{date, date_raw, day, day_raw, Date, RawDate, DAY_MAX};
 pub use cue_book::{read_book, read_book_raw, read_cue, read_cue_raw, read_field, read_field_raw, title, title_raw, write_cue, write_cue_raw};
-pub use cue_book::{BookError, Cue, Days, Due, Field, RawCue, RawField, RawPart, CUES_MAX, CUE_MAX, ORDINAL_MAX, TITLE_MAX};
+pub use cue_book::{BookError, Cue, Days, Due, Field, Mark, RawCue, RawDays, RawField, RawPart, CUES_MAX, CUE_MAX, ORDINAL_MAX, TITLE_MAX};
 pub use find::{find, find_all, find_raw, Finding, Method, RawFinding};
 pub use fold::{fold, fold_raw, fold_text, fold_text_raw, Page, RawFolding};
 pub use late_cuts::{relist, relist_all, relist_raw};
 pub use moves::{find_moves, find_moves_all, find_moves_raw, Move, MovesFinding, RawMovesFinding, Rule, MOVE_ENTRIES};
 pub use refusal::{RawAnswer, Refusal};
 pub use resolver::{resolve, resolve_all, resolve_raw};
-pub use resolver::{CuePlace, RawResolving, ResolveError, ResolverMemory, Resolving, CUE_ENTRIES, RESOLVER_SCRATCH};
+pub use resolver::{CuePlace, RawResolving, ResolverMemory, Resolving, CUE_ENTRIES, RESOLVER_SCRATCH};
+pub use retitle::{retitle, retitle_all, retitle_raw};
+pub use role::Role;
 
 /// The longest phrase of a find and of a cue, in bytes.
 pub const PHRASE_MAX: usize = 1024;

@@ -3,9 +3,9 @@
 use std::error::Error;
 use std::fmt;
 
-/// Why a call was refused. The library tests in the order of the numbers, and the first that applies is returned; only 7 to 9 and a cue's own days (16)
-/// come as a book is read, a date or days that a call is given (16) are tested first of all, [`resolve`](crate::resolve) tests the page (14) after 5 and
-/// before 6, and 12 and 15 cue by cue, and [`relist`](crate::relist) tests the new text's length last.
+/// Why a call was refused. The library tests in the order of the numbers, and the first that applies is returned; only the role (19) is tested ahead of
+/// every other, a date or days that a call is given (16) next, 7 to 9 and a cue's own days (16) come as a book is read, [`resolve`](crate::resolve) tests
+/// the page (14) after 5 and before 6, and 12 and 15 cue by cue, and [`relist`](crate::relist) tests the new text's length last.
 #[derive(Clone, Copy, Debug, PartialEq, Eq, Hash)]
 #[repr(u32)]
 pub enum Refusal {
@@ -25,15 +25,15 @@ pub enum Refusal {
     CutField = 7,
     /// A field's tag is not the one due.
     WrongTag = 8,
-    /// A field's length is not allowed, or an ordinal is 0 or, to be written, above 65,535.
+    /// A field's length is not allowed, an ordinal is 0 or, to be written, above 65,535, or a house mark is above 1.
     BadField = 9,
     /// Bytes remain after 999 cues.
     LongBook = 10,
-    /// The cue entries are fewer than 3 for each cue that plays.
+    /// The cue entries are fewer than 3 for each cue that is resolved.
     ShortEntries = 11,
-    /// A cue's occurrence does not exist.
+    /// A cue's occurrence does not exist; or a book has no cue of the index that is to have another title.
     NoOccurrence = 12,
-    /// A cue to be written is longer than its buffer.
+    /// A cue, or a book with another title, is longer than the buffer that it is to be written to.
     LongCue = 13,
     /// The page is neither 1 nor 15. No call with a [`Page`](crate::Page) meets this.
     UnknownPage = 14,
@@ -45,6 +45,8 @@ pub enum Refusal {
     BadStretch = 17,
     /// A list does not strictly rise, or holds a place where the phrase would pass the text's end.
     BadList = 18,
+    /// The role may not make this call, or there is no such role.
+    NotAllowed = 19,
 }
 
 impl Refusal {
@@ -80,6 +82,7 @@ impl Refusal {
             16 => Some(Refusal::BadDate),
             17 => Some(Refusal::BadStretch),
             18 => Some(Refusal::BadList),
+            19 => Some(Refusal::NotAllowed),
             _ => None,
         }
     }
@@ -104,16 +107,17 @@ impl fmt::Display for Refusal {
             Refusal::ShortBuffer => "the text copy is shorter than the text",
             Refusal::CutField => "the book ends inside a field",
             Refusal::WrongTag => "a field's tag is not the one due",
-            Refusal::BadField => "a field's length is not allowed, or the ordinal is not from 1 to 65,535",
+            Refusal::BadField => "a field's length is not allowed, the ordinal is not from 1 to 65,535, or the house mark is above 1",
             Refusal::LongBook => "bytes remain after 999 cues",
-            Refusal::ShortEntries => "the cue entries are fewer than 3 for each cue that plays",
+            Refusal::ShortEntries => "the cue entries are fewer than 3 for each cue that is resolved",
             Refusal::NoOccurrence => "the cue's occurrence does not exist",
-            Refusal::LongCue => "the cue to be written is longer than its buffer",
+            Refusal::LongCue => "what is to be written is longer than its buffer",
             Refusal::UnknownPage => "the page is neither 1 nor 15",
             Refusal::NotForward => "the cue does not stand behind the cue before it",
             Refusal::BadDate => "a date is not in the calendar's 2000 to 2099, or the first day is after the last",
             Refusal::BadStretch => "the stretch ends before it starts, or past the text",
             Refusal::BadList => "the list does not strictly rise, or holds a place where the phrase would pass the text's end",
+            Refusal::NotAllowed => "the role may not do this",
         })
     }
 }
@@ -136,12 +140,12 @@ mod tests {
 
     #[test]
     fn refusals_have_their_numbers_and_sentences() {
-        for number in 1..=18 {
+        for number in 1..=19 {
             let refusal = Refusal::from_number(number).unwrap();
             assert_eq!(refusal.number(), number);
             assert!(!refusal.to_string().is_empty());
         }
-        for number in [0, 19, u32::MAX] {
+        for number in [0, 20, u32::MAX] {
             assert_eq!(Refusal::from_number(number), None);
         }
         assert_eq!(Refusal::UnknownPage.to_string(), "the page is neither 1 nor 15");
