@@ -3,10 +3,11 @@
 //!
 //! [`find`] is the find call; [`find_moves`] is the find by method 4 that also lists which rule moved the window. [`finder_output`] is what the
 //! finder program prints. Each engine has a file of its own, with its table's rule and its steps. Tables are made by brute force from their rules;
-//! [`kmp_table`] and its like make one by itself, and [`widest_gap`] is what the improved engine's table needs beside the KMP entries. [`read_book`],
-//! [`title`] and [`write_cue`] are the calls of the cue book; [`cues`], [`read_cue`] and [`read_field`] are what they are made of. [`resolve`] is the
-//! resolver, which searches cue by cue, by brute force, and shares nothing with the engines; [`plays`] says which cues it takes, [`groups`] are those
-//! that its reads are counted by, and [`endings`] and [`line_and_column`] are its line rule. [`day`] and [`date`] are the calendar. [`fold`] and
+//! [`kmp_table`] and its like make one by itself, and [`widest_gap`] is what the improved engine's table needs beside the KMP entries. [`read_due`],
+//! [`read_cue`], [`read_book`], [`title`], [`write_cue`] and [`retitle`] are the calls of the cue book; [`cues`] and [`read_field`] are what they are made
+//! of. [`resolve`] is the resolver, which searches cue by cue, by brute force, and shares nothing with the engines; [`plays`] and [`is_open`] say which
+//! cues it takes, [`groups`] are those that its reads are counted by, and [`endings`] and [`line_and_column`] are its line rule. Each call on a book or a
+//! cue is told its role. [`day`] and [`date`] are the calendar. [`fold`] and
 //! [`fold_text`] fold by a page, and [`folding_rule`] is a page's rule by itself. [`relist`] gives a phrase's list after a late cut, and [`new_text`] the
 //! text after it.
 
@@ -26,6 +27,7 @@ mod kmp;
 mod late_cuts;
 mod naive;
 mod resolver;
+mod roles;
 mod sunday;
 mod tables;
 
@@ -33,12 +35,12 @@ mod tables;
 mod worked_examples;
 
 pub use calendar::{date, day};
-pub use cue_book::{cues, read_book, read_cue, read_due, read_field, title, write_cue, Cue, Field};
+pub use cue_book::{cues, read_book, read_cue, read_due, read_field, retitle, title, write_cue, Cue, Field};
 pub use find::{find, find_moves};
 pub use finder::finder_output;
 pub use fold::{fold, fold_text, rule as folding_rule};
 pub use late_cuts::{new_text, relist};
-pub use resolver::{endings, groups, line_and_column, plays, resolve};
+pub use resolver::{endings, groups, is_open, line_and_column, plays, resolve, Lent};
 pub use tables::{delta1_table, delta2_table, horspool_table, kmp_table, max_shift_table, sunday_table, widest_gap};
 
 /// What an engine gives: the places, rising, counted from 0, and the number of looks at a pair P[j], T[i].

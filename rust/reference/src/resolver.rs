@@ -1,6 +1,8 @@
 //! Document 01, "Cue book, folding, lines": the resolver, and "What a refused call hands back", rows 4 to 12. Document 02 (i): the line rule;
-//! (iv): the page; (vi): the groups, the reads, and one scratch; (vii): the cues run forward; (viii): the day, and the cues that play.
+//! (iv): the page; (vi): the groups, the reads, and one scratch; (vii): the cues run forward; (viii): the day, and the cues that play; (xiv): the role,
+//! and the cues that a guest has.
 
+use crate::roles::{permit, Act};
 use crate::{cues, fold, Cue};
 use std::ops::Range;
 
@@ -10,14 +12,22 @@ const SCRATCH: usize = 65_535;
 /// A page's rule for a letter.
 type Rule = fn(u8) -> u8;
 
-/// 0, the number of the playing cues and the reads, or the refusal's number with a cue's index and the reads; and what the lent memory holds afterwards.
-pub fn resolve(day: u32, page: u32, book: &[u8], text: &[u8], copy: &mut [u8], scratch: &mut [u16], entries: &mut [u32]) -> (u32, u32, u32) {
-    let (rule, playing) = match accepted(day, page, book, text.len(), copy.len(), scratch.len(), entries.len()) {
+/// What is lent to the resolver.
+pub struct Lent<'a> {
+    pub copy: &'a mut [u8],
+    pub scratch: &'a mut [u16],
+    pub entries: &'a mut [u32],
+}
+
+/// 0, the number of the chosen cues and the reads, or the refusal's number with a cue's number and the reads; and what the lent memory holds afterwards.
+pub fn resolve(role: u32, day: u32, page: u32, book: &[u8], text: &[u8], lent: Lent<'_>) -> (u32, u32, u32) {
+    let (rule, chosen) = match accepted(role, day, page, book, text.len(), &lent) {
         Ok(accepted) => accepted,
         Err((refusal, cue)) => return (refusal, cue, 0),
     };
-    // Finding, forward running and grouping take the playing cues alone; the index in the book is for faults.
-    let (indices, cues): (Vec<usize>, Vec<Cue>) = playing.into_iter().unzip();
+    let Lent { copy, scratch, entries } = lent;
+    // Finding, forward running and grouping take the chosen cues alone; their numbers are for faults.
+    let (numbers, cues): (Vec<usize>, Vec<Cue>) = chosen.into_iter().unzip();
 
     // The copy's first n bytes are the folded text, and the scratch is 0 throughout, whether a cue meets 12 or 15 or neither.
     let fold_all = |letters: &[u8]| letters.iter().map(|&letter| rule(letter)).collect::<Vec<u8>>();
@@ -36,7 +46,7 @@ pub fn resolve(day: u32, page: u32, book: &[u8], text: &[u8], copy: &mut [u8], s
         // cue is included.
         let place = match forward(before, found) {
             Ok(place) => place,
-            Err(refusal) => return (refusal, indices[k] as u32, reads(walked_up_to(k))),
+            Err(refusal) => return (refusal, numbers[k] as u32, reads(walked_up_to(k))),
         };
         let (line, column) = line_and_column(&endings, place);
         entries[3 * k..3 * k + 3].copy_from_slice(&[place, line, column].map(|number| number as u32));
@@ -45,31 +55,45 @@ pub fn resolve(day: u32, page: u32, book: &[u8], text: &[u8], copy: &mut [u8], s
     (0, cues.len() as u32, reads(groups.len()))
 }
 
-/// A page's rule, and the cues that play, each with its index in the book.
+/// A page's rule, and the chosen cues, each with its number.
 type Accepted = (Rule, Vec<(usize, Cue)>);
 
-/// What is resolved; or the refusals: the call's own date first of all, 4 and 5, then 14, then 6, then those of the whole book, then 11, for which nothing
-/// is written and nothing is read.
-fn accepted(day: u32, page: u32, book: &[u8], n: usize, copy: usize, scratch: usize, entries: usize) -> Result<Accepted, (u32, u32)> {
+/// What is resolved; or the refusals: the role ahead of every other test, then the call's own date, 4 and 5, then 14, then 6, then those of the whole book,
+/// then 11, for which nothing is written and nothing is read.
+fn accepted(role: u32, day: u32, page: u32, book: &[u8], n: usize, lent: &Lent<'_>) -> Result<Accepted, (u32, u32)> {
+    permit(role, Act::Resolve).map_err(|refusal| (refusal, 0))?;
     if day > 36_524 {
         return Err((16, 0));
     }
     if n > 32_768 {
         return Err((4, 0));
     }
-    if scratch < SCRATCH {
+    if lent.scratch.len() < SCRATCH {
         return Err((5, 0));
     }
     let rule = fold::rule(page).ok_or((14, 0))?;
-    if copy < n {
+    if lent.copy.len() < n {
         return Err((6, 0));
     }
-    let playing: Vec<(usize, Cue)> = cues(book)?.into_iter().enumerate().filter(|(_, cue)| plays(cue, day)).collect();
-    // 11 counts the playing cues.
-    if entries < 3 * playing.len() {
+    let chosen = chosen(role, day, cues(book)?);
+    // 11 counts the chosen cues.
+    if lent.entries.len() < 3 * chosen.len() {
         return Err((11, 0));
     }
-    Ok((rule, playing))
+    Ok((rule, chosen))
+}
+
+/// The cues that are resolved, each with the number by which a fault names it. House cues are passed over for a guest like cues that do not play, and its
+/// cue numbers count open cues only; any other number is the index in the book.
+fn chosen(role: u32, day: u32, cues: Vec<Cue>) -> Vec<(usize, Cue)> {
+    let guest = role == 2;
+    let seen = cues.into_iter().filter(|cue| !guest || is_open(cue));
+    seen.enumerate().filter(|(_, cue)| plays(cue, day)).collect()
+}
+
+/// Whether a cue is open, as it is without the field.
+pub fn is_open(cue: &Cue) -> bool {
+    cue.house != Some(1)
 }
 
 /// Whether a cue plays on this day: its first and last day are both included, and without the field it plays always.
@@ -80,7 +104,7 @@ pub fn plays(cue: &Cue, day: u32) -> bool {
     }
 }
 
-/// The place of a cue, if it was found and is above that of the playing cue before it; the first one has none before it.
+/// The place of a cue, if it was found and is above that of the chosen cue before it; the first one has none before it.
 fn forward(before: Option<usize>, found: Option<usize>) -> Result<usize, u32> {
     match (before, found) {
         (_, None) => Err(12),

@@ -1,10 +1,10 @@
-//! The worked examples of document 01, "The finder program" and "Refrains to try", and of document 02, (ii), (iv) to (viii), (x), (xi) and (xiii), and the
-//! tests that books, cues and lent memory meet.
+//! The worked examples of document 01, "The finder program" and "Refrains to try", and of document 02, (ii), (iv) to (viii), (x), (xi), (xiii) and
+//! (xiv), and the tests that books, cues and lent memory meet.
 
 use crate::{boyer_moore, double_window, fjs, horspool, improved_fjs, kmp, sunday};
-use crate::{cues, date, day, read_book, read_cue, read_due, read_field, title, write_cue, Cue, Field};
+use crate::{cues, date, day, read_book, read_cue, read_due, read_field, retitle, title, write_cue, Cue, Field};
 use crate::{endings, find, find_moves, finder_output, fold, fold_text, folding_rule, groups, line_and_column, max_shift_table, resolve, widest_gap};
-use crate::{new_text, relist};
+use crate::{new_text, relist, Lent};
 
 /// Total, comparisons and places by a method, with memory enough.
 fn found(method: u32, phrase: &[u8], text: &[u8]) -> (u32, u32, Vec<u32>) {
@@ -939,13 +939,13 @@ const BOOK: &[u8] = b"\x01\x00\x02la\x02\x00\x02\x00\x02\x03\x00\x02No";
 #[test]
 fn starred_book() {
     assert_eq!(BOOK, [0x01, 0x00, 0x02, 0x6c, 0x61, 0x02, 0x00, 0x02, 0x00, 0x02, 0x03, 0x00, 0x02, 0x4e, 0x6f]);
-    assert_eq!(cues(BOOK), Ok(vec![Cue { phrase: 3..5, ordinal: 2, title: 13..15, days: None }]));
-    assert_eq!(read_cue(BOOK, 0), Ok((Cue { phrase: 3..5, ordinal: 2, title: 13..15, days: None }, 15)));
-    assert_eq!(read_book(BOOK), (0, 1));
-    assert_eq!(title(BOOK, 0), (13, 2));
-    assert_eq!(title(BOOK, 1), (0, 0));
+    assert_eq!(cues(BOOK), Ok(vec![Cue { phrase: 3..5, ordinal: 2, title: 13..15, days: None, house: None }]));
+    assert_eq!(read_cue(0, BOOK, 0), Ok((Cue { phrase: 3..5, ordinal: 2, title: 13..15, days: None, house: None }, 15)));
+    assert_eq!(read_book(0, BOOK), (0, 1));
+    assert_eq!(title(0, BOOK, 0), (13, 2));
+    assert_eq!(title(0, BOOK, 1), (0, 0));
     let mut buffer = [7; 17];
-    assert_eq!(write_cue(&mut buffer, b"la", 2, b"No", None), (0, 15));
+    assert_eq!(write_cue(0, &mut buffer, b"la", 2, b"No", None, 0), (0, 15));
     assert_eq!(buffer, *[BOOK, &[7, 7]].concat());
 }
 
@@ -1004,43 +1004,43 @@ fn fields() {
     assert_eq!(met(&[0x02, 0x00, 0x02, 0x00], Field::Ordinal), Some(7));
     assert_eq!(met(&[0x02, 0x00, 0x02, 0x00, 0x00], Field::Ordinal), Some(9));
     assert_eq!(met(&[0x02, 0x00, 0x02, 0x01, 0x00], Field::Ordinal), None);
-    assert_eq!(read_due(BOOK, 10, 3), read_field(BOOK, 10, Field::Title));
-    assert_eq!((read_due(BOOK, 12, 5), read_due(BOOK, 13, 5), read_due(BOOK, usize::MAX, 0)), (Err(8), Err(7), Err(7)));
+    assert_eq!(read_due(0, BOOK, 10, 3), read_field(BOOK, 10, Field::Title));
+    assert_eq!((read_due(0, BOOK, 12, 6), read_due(0, BOOK, 13, 6), read_due(0, BOOK, usize::MAX, 0)), (Err(8), Err(7), Err(7)));
 }
 
 #[test]
 fn numbers_of_cues() {
     let mut book = BOOK.repeat(999);
-    assert_eq!(read_book(&[]), (0, 0));
-    assert_eq!(read_book(&book), (0, 999));
-    assert_eq!(title(&book, 998), (15 * 998 + 13, 2));
+    assert_eq!(read_book(0, &[]), (0, 0));
+    assert_eq!(read_book(0, &book), (0, 999));
+    assert_eq!(title(0, &book, 998), (15 * 998 + 13, 2));
     book.push(0x01);
-    assert_eq!(read_book(&book), (10, 999));
-    assert_eq!(title(&book, 998), (0, 0));
+    assert_eq!(read_book(0, &book), (10, 999));
+    assert_eq!(title(0, &book, 998), (0, 0));
     book[15 * 998] = 0x02;
-    assert_eq!(read_book(&book), (8, 998));
+    assert_eq!(read_book(0, &book), (8, 998));
 }
 
 #[test]
 fn cues_to_be_written() {
     let mut buffer = [7; 1242];
     let letters = [b'a'; 1025];
-    assert_eq!(write_cue(&mut buffer, b"", 0, &letters, None), (2, 0));
-    assert_eq!(write_cue(&mut buffer, &letters, 0, &letters, None), (3, 0));
+    assert_eq!(write_cue(0, &mut buffer, b"", 0, &letters, None, 0), (2, 0));
+    assert_eq!(write_cue(0, &mut buffer, &letters, 0, &letters, None, 0), (3, 0));
     for (ordinal, title) in [(0, 0), (65_536, 0), (u32::MAX, 0), (1, 201)] {
-        assert_eq!(write_cue(&mut buffer[..0], b"a", ordinal, &letters[..title], None), (9, 0));
+        assert_eq!(write_cue(0, &mut buffer[..0], b"a", ordinal, &letters[..title], None, 0), (9, 0));
     }
-    assert_eq!(write_cue(&mut buffer[..1234], &letters[..1024], 65_535, &letters[..200], None), (13, 0));
-    assert_eq!(write_cue(&mut buffer[..1241], &letters[..1024], 65_535, &letters[..200], Some((0, 36_524))), (13, 0));
+    assert_eq!(write_cue(0, &mut buffer[..1234], &letters[..1024], 65_535, &letters[..200], None, 0), (13, 0));
+    assert_eq!(write_cue(0, &mut buffer[..1241], &letters[..1024], 65_535, &letters[..200], Some((0, 36_524)), 0), (13, 0));
     // The days come first of all, and 13 is by the length with them.
     for days in [(0, 36_525), (36_525, 36_525), (1, 0), (u32::MAX, 0)] {
-        assert_eq!(write_cue(&mut buffer[..0], b"", 0, &letters, Some(days)), (16, 0));
+        assert_eq!(write_cue(0, &mut buffer[..0], b"", 0, &letters, Some(days), 0), (16, 0));
     }
     assert_eq!(buffer, [7; 1242]);
-    assert_eq!(write_cue(&mut buffer, &letters[..1024], 65_535, &letters[..200], None), (0, 1235));
-    let longest = Cue { phrase: 3..1027, ordinal: 65_535, title: 1035..1235, days: None };
+    assert_eq!(write_cue(0, &mut buffer, &letters[..1024], 65_535, &letters[..200], None, 0), (0, 1235));
+    let longest = Cue { phrase: 3..1027, ordinal: 65_535, title: 1035..1235, days: None, house: None };
     assert_eq!((cues(&buffer[..1235]), &buffer[1235..]), (Ok(vec![longest.clone()]), &[7; 7][..]));
-    assert_eq!(write_cue(&mut buffer, &letters[..1024], 65_535, &letters[..200], Some((0, 36_524))), (0, 1242));
+    assert_eq!(write_cue(0, &mut buffer, &letters[..1024], 65_535, &letters[..200], Some((0, 36_524)), 0), (0, 1242));
     assert_eq!(buffer[1235..], [0x04, 0x00, 0x04, 0x00, 0x00, 0x8e, 0xac]);
     assert_eq!(cues(&buffer), Ok(vec![Cue { days: Some((0, 36_524)), ..longest }]));
 }
@@ -1066,23 +1066,23 @@ const DATED: &[u8] = b"\x01\x00\x02la\x02\x00\x02\x00\x02\x03\x00\x02No\x04\x00\
 /// Document 02 (viii): the field of the dates, and whose it is.
 #[test]
 fn dates_of_cues() {
-    let dated = Cue { phrase: 3..5, ordinal: 2, title: 13..15, days: Some((1, 256)) };
-    assert_eq!(read_cue(DATED, 0), Ok((dated.clone(), 22)));
-    assert_eq!((read_field(DATED, 15, Field::Dates), read_due(DATED, 15, 4)), (Ok((18..22, 22)), Ok((18..22, 22))));
-    assert_eq!((read_book(&[DATED, BOOK, DATED].concat()), title(&[DATED, BOOK].concat(), 1)), ((0, 3), (35, 2)));
+    let dated = Cue { phrase: 3..5, ordinal: 2, title: 13..15, days: Some((1, 256)), house: None };
+    assert_eq!(read_cue(0, DATED, 0), Ok((dated.clone(), 22)));
+    assert_eq!((read_field(DATED, 15, Field::Dates), read_due(0, DATED, 15, 4)), (Ok((18..22, 22)), Ok((18..22, 22))));
+    assert_eq!((read_book(0, &[DATED, BOOK, DATED].concat()), title(0, &[DATED, BOOK].concat(), 1)), ((0, 3), (35, 2)));
     let mut buffer = [7; 23];
-    assert_eq!(write_cue(&mut buffer, b"la", 2, b"No", Some((1, 256))), (0, 22));
+    assert_eq!(write_cue(0, &mut buffer, b"la", 2, b"No", Some((1, 256)), 0), (0, 22));
     assert_eq!(buffer, *[DATED, &[7]].concat());
     // After 999 cues a field of dates is the last one's, and anything else remains.
     let full = BOOK.repeat(999);
-    assert_eq!(read_book(&[&full[..], &DATED[15..]].concat()), (0, 999));
-    assert_eq!(read_book(&[&full[..], &DATED[15..], &[0x04]].concat()), (10, 999));
-    assert_eq!(read_book(&[&full[..], &[0x04]].concat()), (7, 998));
+    assert_eq!(read_book(0, &[&full[..], &DATED[15..]].concat()), (0, 999));
+    assert_eq!(read_book(0, &[&full[..], &DATED[15..], &[0x04]].concat()), (10, 999));
+    assert_eq!(read_book(0, &[&full[..], &[0x04]].concat()), (7, 998));
     // A second field of dates is where the next phrase is due.
-    assert_eq!(read_book(&[DATED, &DATED[15..]].concat()), (8, 1));
+    assert_eq!(read_book(0, &[DATED, &DATED[15..]].concat()), (8, 1));
 
     // The tests in their order, each met by a field that would also meet the later ones.
-    let met = |field: &[u8]| read_book(&[DATED, BOOK, field].concat());
+    let met = |field: &[u8]| read_book(0, &[DATED, BOOK, field].concat());
     assert_eq!([&[0x04][..], &[0x04, 0x00]].map(met), [(7, 1); 2]);
     for length in [&[0x00, 0x00][..], &[0x00, 0x03], &[0x00, 0x05], &[0x04, 0x00], &[0x04, 0x04]] {
         assert_eq!(met(&[&[0x04], length, &[0xff, 0xff, 0x00]].concat()), (9, 1));
@@ -1093,10 +1093,115 @@ fn dates_of_cues() {
     assert_eq!(met(&[0x04, 0x00, 0x04, 0x8e, 0xac, 0x8e, 0xac]), (0, 2));
 }
 
-/// What the resolver gives on a day, with the entries, in memory that is just long enough and holds 7 throughout before.
-fn resolved_on(day: u32, page: u32, book: &[u8], text: &[u8], cues: usize) -> ((u32, u32, u32), Vec<u32>) {
+/// House only, open, and a value that there is not.
+const HOUSE: &[u8] = &[0x05, 0x00, 0x01, 0x01];
+const OPEN: &[u8] = &[0x05, 0x00, 0x01, 0x00];
+const NEITHER: &[u8] = &[0x05, 0x00, 0x01, 0x02];
+
+/// Document 02 (xiv): the field that a cue may carry last, and whose it is.
+#[test]
+fn house_fields_of_cues() {
+    for (field, house) in [(HOUSE, Some(1)), (OPEN, Some(0)), (&[][..], None)] {
+        for (cue, title_end) in [(BOOK, 15), (DATED, 22)] {
+            let marked = [cue, field].concat();
+            let (read, end) = read_cue(0, &marked, 0).unwrap();
+            assert_eq!((read.house, read.days.is_some(), end), (house, cue == DATED, title_end + field.len()));
+            // It is that cue's, also after the 999th.
+            assert_eq!(read_book(0, &[&marked[..], cue].concat()), (0, 2));
+            let full = [&BOOK.repeat(998)[..], &marked].concat();
+            assert_eq!((read_book(0, &full), read_book(0, &[&full[..], &[0x01]].concat())), ((0, 999), (10, 999)));
+        }
+    }
+    assert_eq!((read_field(HOUSE, 0, Field::House), read_due(0, OPEN, 0, 5)), (Ok((3..4, 4)), Ok((3..4, 4))));
+    // It comes last: dates after it are where the next phrase is due, and so is a second one.
+    assert_eq!(read_book(0, &[BOOK, HOUSE, &DATED[15..]].concat()), (8, 1));
+    assert_eq!(read_book(0, &[BOOK, HOUSE, HOUSE].concat()), (8, 1));
+    assert_eq!(read_book(0, &[&BOOK.repeat(999)[..], HOUSE, HOUSE].concat()), (10, 999));
+
+    // The tests in their order, each met by a field that would also meet the later ones.
+    let met = |field: &[u8]| [BOOK, DATED].map(|cue| read_book(0, &[cue, cue, field].concat()));
+    assert_eq!([&[0x05][..], &[0x05, 0x00]].map(met), [[(7, 1); 2]; 2]);
+    for length in [&[0x00, 0x00][..], &[0x00, 0x02], &[0x01, 0x00], &[0x01, 0x01]] {
+        assert_eq!(met(&[&[0x05], length, &[0x02]].concat()), [(9, 1); 2]);
+    }
+    assert_eq!(met(&[0x05, 0x00, 0x01]), [(7, 1); 2]);
+    for value in [2, 3, 128, 255] {
+        assert_eq!(met(&[0x05, 0x00, 0x01, value]), [(9, 1); 2]);
+    }
+}
+
+/// Document 02 (xiv): the writer is told which, and writes the field for house only.
+#[test]
+fn house_cues_to_be_written() {
+    for (house, field) in [(0, &[][..]), (1, HOUSE)] {
+        for (days, cue) in [(None, BOOK), (Some((1, 256)), DATED)] {
+            let written = [cue, field].concat();
+            let mut buffer = [7; 30];
+            assert_eq!(write_cue(0, &mut buffer[..written.len()], b"la", 2, b"No", days, house), (0, written.len() as u32));
+            assert_eq!(buffer[..written.len() + 1], *[&written[..], &[7]].concat());
+            assert_eq!(write_cue(0, &mut buffer[..written.len() - 1], b"la", 2, b"No", days, house), (13, 0));
+        }
+    }
+    for house in [2, 255, 256, 257, u32::MAX] {
+        assert_eq!(write_cue(0, &mut [], b"la", 2, b"No", None, house), (9, 0));
+        assert_eq!(write_cue(0, &mut [], b"", 2, b"No", None, house), (2, 0));
+        assert_eq!(write_cue(0, &mut [], b"", 2, b"No", Some((1, 0)), house), (16, 0));
+        assert_eq!(write_cue(1, &mut [], b"", 2, b"No", Some((1, 0)), house), (19, 0));
+    }
+}
+
+/// Document 02 (xiv): the operator may do all, a translator have a title replaced, a guest resolve; 19 is ahead of every other test.
+#[test]
+fn roles() {
+    for book in [BOOK, &BOOK[..14], &[]] {
+        for role in [1, 2, 3, 256, u32::MAX] {
+            assert_eq!((read_due(role, book, 0, 1), read_cue(role, book, 0)), (Err(19), Err(19)));
+            assert_eq!((read_book(role, book), title(role, book, 0)), ((19, 0), (0, 0)));
+            let mut buffer = [7; 40];
+            assert_eq!(write_cue(role, &mut buffer, b"la", 2, b"No", None, 0), (19, 0));
+            assert_eq!(retitle(role, book, 0, b"", &mut buffer).0 == 19, role != 1);
+            assert!(role == 1 || buffer == [7; 40]);
+            assert_eq!(resolved_by(role, 9569, 1, book, b"la la", 1).0 .0 == 19, role != 2);
+        }
+    }
+}
+
+/// Document 02 (xiv): one title replaced and nothing else changed.
+#[test]
+fn titles_replaced() {
+    let book = [BOOK, OPEN, DATED, HOUSE, BOOK].concat();
+    let with = |cue, title: &[u8]| {
+        let mut buffer = [7; 300];
+        let (refusal, length) = retitle(1, &book, cue, title, &mut buffer);
+        assert_eq!((refusal, &buffer[length as usize..]), (0, &[7; 300][length as usize..]));
+        buffer[..length as usize].to_vec()
+    };
+    let titled = |title: &[u8]| [&BOOK[..11], &[0, title.len() as u8], title].concat();
+    assert_eq!(with(0, b"Non"), [&titled(b"Non")[..], OPEN, DATED, HOUSE, BOOK].concat());
+    assert_eq!(with(1, b""), [BOOK, OPEN, &titled(b"")[..], &DATED[15..], HOUSE, BOOK].concat());
+    assert_eq!(with(2, &[b't'; 200]), [BOOK, OPEN, DATED, HOUSE, &titled(&[b't'; 200])[..]].concat());
+    assert_eq!(with(2, b"No"), book);
+
+    // The tests in their order, each met by a call that would also meet the later ones.
+    let long = [b't'; 201];
+    let refusal = |role, book: &[u8], cue, title: &[u8], room| {
+        let mut buffer = vec![7; room];
+        let answer = retitle(role, book, cue, title, &mut buffer);
+        (answer, buffer == vec![7; room])
+    };
+    let fault = [&book[..], BOOK, NEITHER].concat();
+    assert_eq!(refusal(2, &fault, 9, &long, 0), ((19, 0), true));
+    assert_eq!(refusal(1, &fault, 9, &long, 0), ((9, 3), true));
+    assert_eq!(refusal(1, &book, 9, &long, 0), ((9, 0), true));
+    assert_eq!(refusal(1, &book, 3, &long[..200], 0), ((12, 0), true));
+    assert_eq!(refusal(1, &book, 2, &long[..200], book.len() + 197), ((13, 0), true));
+    assert_eq!(refusal(1, &book, 2, &long[..200], book.len() + 198), ((0, book.len() as u32 + 198), false));
+}
+
+/// What the resolver gives a role on a day, with the entries, in memory that is just long enough and holds 7 throughout before.
+fn resolved_by(role: u32, day: u32, page: u32, book: &[u8], text: &[u8], cues: usize) -> ((u32, u32, u32), Vec<u32>) {
     let (mut copy, mut scratch, mut entries) = (vec![7; text.len()], vec![7; 65_535], vec![7; 3 * cues]);
-    let answer = resolve(day, page, book, text, &mut copy, &mut scratch, &mut entries);
+    let answer = resolve(role, day, page, book, text, Lent { copy: &mut copy, scratch: &mut scratch, entries: &mut entries });
     if [0, 12, 15].contains(&answer.0) {
         assert_eq!(copy, text.iter().map(|&letter| folding_rule(page).unwrap()(letter)).collect::<Vec<u8>>());
         assert_eq!(scratch, [0; 65_535]);
@@ -1104,6 +1209,11 @@ fn resolved_on(day: u32, page: u32, book: &[u8], text: &[u8], cues: usize) -> ((
         assert_eq!((copy, scratch), (vec![7; text.len()], vec![7; 65_535]));
     }
     (answer, entries)
+}
+
+/// What the resolver gives the operator on a day.
+fn resolved_on(day: u32, page: u32, book: &[u8], text: &[u8], cues: usize) -> ((u32, u32, u32), Vec<u32>) {
+    resolved_by(0, day, page, book, text, cues)
 }
 
 /// What the resolver gives for cues that play always.
@@ -1134,8 +1244,8 @@ fn line_ends() {
 #[test]
 fn folded_and_overlapping_occurrences() {
     let mut book = [0; 1000];
-    let (_, first) = write_cue(&mut book, b"\xc9L\xe9", 2, b"", None);
-    let (_, second) = write_cue(&mut book[first as usize..], b"\n", 2, b"the second line's end", None);
+    let (_, first) = write_cue(0, &mut book, b"\xc9L\xe9", 2, b"", None, 0);
+    let (_, second) = write_cue(0, &mut book[first as usize..], b"\n", 2, b"the second line's end", None, 0);
     let book = &book[..(first + second) as usize];
     for page in [1, 15] {
         assert_eq!(resolved(page, book, b" \n\xe9l\xc9L\xe9\n", 2), ((0, 2, 8), vec![4, 2, 3, 7, 2, 6]));
@@ -1148,7 +1258,7 @@ fn folded_and_overlapping_occurrences() {
 
 /// The first cue of each group, and the one after its last, for cues with phrases of these lengths.
 fn bounds_of_groups(lengths: &[usize]) -> Vec<(usize, usize)> {
-    let cues: Vec<Cue> = lengths.iter().map(|&length| Cue { phrase: 0..length, ordinal: 1, title: 0..0, days: None }).collect();
+    let cues: Vec<Cue> = lengths.iter().map(|&length| Cue { phrase: 0..length, ordinal: 1, title: 0..0, days: None, house: None }).collect();
     groups(&cues).into_iter().map(|group| (group.start, group.end)).collect()
 }
 
@@ -1174,7 +1284,7 @@ fn dated_book_of(cues: &[DatedCue]) -> Vec<u8> {
     let mut book = Vec::new();
     for &(phrase, ordinal, days) in cues {
         let mut cue = [0; 1100];
-        let (_, length) = write_cue(&mut cue, phrase, ordinal, b"", days);
+        let (_, length) = write_cue(0, &mut cue, phrase, ordinal, b"", days, 0);
         book.extend_from_slice(&cue[..length as usize]);
     }
     book
@@ -1242,7 +1352,7 @@ fn cues_run_forward() {
 #[test]
 fn resolving_by_a_page() {
     let mut book = [0; 1000];
-    let (_, length) = write_cue(&mut book, b"c\xbcur", 2, b"", None);
+    let (_, length) = write_cue(0, &mut book, b"c\xbcur", 2, b"", None, 0);
     let book = &book[..length as usize];
     assert_eq!(resolved(15, book, b"C\xbdUR\nc\xbcur", 1), ((0, 1, 9), vec![5, 2, 1]));
     assert_eq!(resolved(1, book, b"C\xbdUR\nc\xbcur", 1), ((12, 0, 9), vec![7, 7, 7]));
@@ -1299,16 +1409,46 @@ fn groups_of_playing_cues() {
     assert_eq!(resolved_on(8, 1, &dated_book_of(&cues), &text, 4).0, (0, 4, 1200));
 }
 
-/// The tests in their order, each met by a call that would also meet the later ones; 16 comes first of all, and 14 after 5 and before 6.
+/// Document 02 (xiv): house cues are passed over for a guest like cues that do not play, and its numbers count open cues, playing or not.
+#[test]
+fn cues_for_a_guest() {
+    let cue = |field: &[u8], phrase: &[u8], ordinal, days| [&dated_book_of(&[(phrase, ordinal, days)])[..], field].concat();
+    let off = Some((1, 1));
+    // An open cue that does not play, a house cue at no place, an open one, a house cue at that place, and an open one.
+    let house = [cue(HOUSE, b"so", 1, None), cue(HOUSE, b"la", 1, None)];
+    let open = [cue(OPEN, b"so", 1, off), cue(&[], b"la", 1, None), cue(OPEN, b"la", 2, None)];
+    let book = [&open[0], &house[0], &open[1], &house[1], &open[2]].map(|cue| &cue[..]).concat();
+    let guest = |book: &[u8], text: &[u8], cues| resolved_by(2, 9569, 1, book, text, cues);
+    assert_eq!(guest(&book, b"la la", 2), ((0, 2, 5), vec![0, 1, 1, 3, 1, 4]));
+    assert_eq!(resolved(1, &book, b"la la", 4).0, (12, 1, 5));
+    assert_eq!(guest(&book, b"la la", 1).0, (11, 0, 0));
+    assert_eq!(guest(&book, b"la", 2), ((12, 2, 2), vec![0, 1, 1, 7, 7, 7]));
+    assert_eq!(guest(&[&book[..], &house[0], &open[1]].concat(), b"la la", 3).0, (15, 3, 5));
+    // The same without the house cues.
+    assert_eq!(guest(&open.concat(), b"la", 2), ((12, 2, 2), vec![0, 1, 1, 7, 7, 7]));
+    // A fault of the book names the index in the whole of it.
+    assert_eq!(guest(&[&book[..], BOOK, NEITHER].concat(), b"la la", 3).0, (9, 5, 0));
+    // 65 open cues and 65 house ones between them are two groups.
+    let many: Vec<u8> = (1..=65).flat_map(|ordinal| [cue(&[], b"a", ordinal, None), house[0].clone()].concat()).collect();
+    assert_eq!(guest(&many, &[b'a'; 65], 65).0, (0, 65, 2 * 65));
+}
+
+/// The tests in their order, each met by a call that would also meet the later ones; 19 comes first of all, 16 next, and 14 after 5 and before 6.
 #[test]
 fn resolving_limits() {
     let text = [b'a'; 32_769];
     let (mut copy, mut scratch) = (vec![7; 32_769], vec![7; 65_535]);
-    let mut refusal_on = |day, page, n, copied, tables| resolve(day, page, b"\x02", &text[..n], &mut copy[..copied], &mut scratch[..tables], &mut []);
-    for day in [36_525, 65_536, u32::MAX] {
-        assert_eq!(refusal_on(day, 0, 32_769, 0, 0), (16, 0, 0));
+    let mut refusal_by = |role, day, page, n, copied, tables| {
+        let lent = Lent { copy: &mut copy[..copied], scratch: &mut scratch[..tables], entries: &mut [] };
+        resolve(role, day, page, b"\x02", &text[..n], lent)
+    };
+    for role in [1, 3, 256, u32::MAX] {
+        assert_eq!(refusal_by(role, 36_525, 0, 32_769, 0, 0), (19, 0, 0));
     }
-    let mut refusal = |page, n, copied, tables| refusal_on(36_524, page, n, copied, tables);
+    for (role, day) in [0, 2].into_iter().flat_map(|role| [36_525, 65_536, u32::MAX].map(|day| (role, day))) {
+        assert_eq!(refusal_by(role, day, 0, 32_769, 0, 0), (16, 0, 0));
+    }
+    let mut refusal = |page, n, copied, tables| refusal_by(2, 36_524, page, n, copied, tables);
     assert_eq!(refusal(0, 32_769, 0, 0), (4, 0, 0));
     assert_eq!(refusal(0, 32_768, 0, 65_534), (5, 0, 0));
     assert_eq!(refusal(0, 32_768, 0, 65_535), (14, 0, 0));
