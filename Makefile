@@ -51,7 +51,7 @@ rust-test: $(archive) $(programs)
 
 examples: $(examples)
 
-target/examples/%: examples/%.c examples/date.h examples/page.h $(header) $(archive)
+target/examples/%: examples/%.c $(wildcard examples/*.h) $(header) $(archive)
 	@mkdir -p $(@D)
 	$(CC) -std=c99 -Wall -Wextra -Wpedantic $(CFLAGS) -I include $< $(archive) $(LDFLAGS) -o $@
 

@@ -2,6 +2,7 @@
 #ifndef PAGE_H
 #define PAGE_H
 
+#include <stddef.h>
 #include <stdint.h>
 #include <string.h>
 
@@ -30,9 +31,9 @@ static inline uint32_t named_page(const char *argument)
     return strcmp(argument, "15") == 0 ? LIBRETTO_PAGE_15 : 0;
 }
 
-/* Reads the options --page 1|15 and --bytes at the front of the arguments, each at most once; gives the index of the argument after them, or 0 if an
- * option is wrong. */
-static inline int read_options(int argc, char **argv)
+/* Reads the options --page 1|15 and --bytes at the front of the arguments, and --guest for a program that has it and notes it, each at most once; gives
+ * the index of the argument after them, or 0 if an option is wrong. */
+static inline int read_options(int argc, char **argv, int *guest)
 {
     int next = 1, paged = 0;
 
@@ -40,6 +41,8 @@ static inline int read_options(int argc, char **argv)
         const char *option = argv[next++];
         if (strcmp(option, "--bytes") == 0 && !as_bytes) {
             as_bytes = 1;
+        } else if (strcmp(option, "--guest") == 0 && guest != NULL && !*guest) {
+            *guest = 1;
         } else if (strcmp(option, "--page") == 0 && !paged && next < argc) {
             paged = 1;
             page = named_page(argv[next++]);

@@ -1,4 +1,4 @@
-/* Prints the show file of a libretto and a cue book for a day: show [--page 1|15] [--bytes] DAY TEXT BOOK
+/* Prints the show file of a libretto and a cue book for a day: show [--page 1|15] [--bytes] [--guest] DAY TEXT BOOK
  *
  * The day is year-month-day, as in 2026-03-14. Cues that do not play on it are left out of all that follows; the others keep their indexes.
  *
@@ -9,25 +9,30 @@
  * Text and book are in ISO 8859-1, or with --page 15 in ISO 8859-15. Titles and phrases are printed in UTF-8, or with --bytes as they stand. A byte 10
  * in them is printed as \n, any other control byte as \xNN with its hexadecimal number, and a backslash as \\, so that each keeps to its line.
  *
+ * With --guest it is the show file of a guest, who may have the book resolved and no more: a line for each open cue that plays, in the book's order, with
+ * its place, its line and its column. Indexes, titles and refrains are left out, since they are read from the cues. Where a cue is not found or does not
+ * run forward, its number counts the open cues of the book.
+ *
  * What the library refuses is told on standard error, and no show file is printed then; the exit status is 1. It is 2 if reading or writing fails. */
 #include <assert.h>
 #include <stdio.h>
 #include <string.h>
 
 #include "date.h"
+#include "desk.h"
 #include "libretto.h"
 #include "page.h"
 
-enum { REFUSED = 1, FAILED = 2 };
-
 /* One byte more than the library takes, so that of a file that is too long enough is read to have it refused. */
 #define TEXT_ROOM (LIBRETTO_TEXT_MAX + 1)
-#define BOOK_ROOM (LIBRETTO_CUES_MAX * LIBRETTO_CUE_MAX + 1)
 
 #define PLACES_A_ROW 10
 
 static uint8_t text[TEXT_ROOM], book[BOOK_ROOM];
 static size_t text_len, book_len;
+
+/* Whether the show file is a guest's. */
+static int guest;
 
 /* The day, and the cues that play on it, each with its index in the book and the place where it begins there. */
 static uint32_t day;
@@ -45,23 +50,6 @@ static uint8_t folded_text[LIBRETTO_TEXT_MAX], folded_book[BOOK_ROOM];
 static uint16_t scratch[LIBRETTO_SCRATCH_RESOLVER];
 static uint32_t entries[LIBRETTO_CUES_MAX * LIBRETTO_CUE_ENTRIES];
 static uint32_t list[LIBRETTO_TEXT_MAX];
-
-/* Reads a file, or as much of it as there is room for; gives 0 if that fails. */
-static int read_file(const char *path, uint8_t *bytes, size_t room, size_t *len)
-{
-    FILE *file = fopen(path, "rb");
-
-    if (file == NULL) {
-        perror(path);
-        return 0;
-    }
-    *len = fread(bytes, 1, room, file);
-    int failed = ferror(file);
-    if (failed)
-        perror(path);
-    fclose(file);
-    return !failed;
-}
 
 /* The sign of Unicode that a letter of the page is. */
 static unsigned sign_of(uint8_t letter)
@@ -115,7 +103,7 @@ static void note_cues(void)
     uint32_t index = 0;
 
     for (size_t place = 0; place < book_len; place = cue.end, index++) {
-        cue = libretto_read_cue(book, book_len, place);
+        cue = libretto_read_cue(LIBRETTO_OPERATOR, book, book_len, place);
         assert(cue.refusal == LIBRETTO_OK);
         if (cue.dated && (day < cue.first || day > cue.last))
             continue;
@@ -140,8 +128,8 @@ static size_t playing_at(uint32_t index)
 /* Resolves the cues of a part of the book. */
 static libretto_resolving resolve(size_t start, size_t end, uint32_t *into, size_t into_len)
 {
-    return libretto_resolve(day, page, book + start, end - start, text, text_len, folded_text, sizeof folded_text, scratch,
-                            LIBRETTO_SCRATCH_RESOLVER, into, into_len);
+    return libretto_resolve(guest ? LIBRETTO_GUEST : LIBRETTO_OPERATOR, day, page, book + start, end - start, text, text_len, folded_text,
+                            sizeof folded_text, scratch, LIBRETTO_SCRATCH_RESOLVER, into, into_len);
 }
 
 /* Lists all places of a cue's folded phrase in the folded text, which the resolver has left in its copy; gives their number. */
@@ -157,25 +145,17 @@ static uint32_t list_refrain(const libretto_cue *cue)
 
 static const char *words(uint32_t refusal)
 {
+    const char *wrong = book_words(refusal);
+
     switch (refusal) {
     case LIBRETTO_LONG_TEXT:
         return "the text has more than 32,768 bytes";
-    case LIBRETTO_CUT_FIELD:
-        return "the book ends inside a field";
-    case LIBRETTO_WRONG_TAG:
-        return "a field's tag is not the one due";
-    case LIBRETTO_BAD_FIELD:
-        return "a field's length is not allowed, or the ordinal is not from 1 to 65,535";
-    case LIBRETTO_LONG_BOOK:
-        return "bytes remain after 999 cues";
     case LIBRETTO_NO_OCCURRENCE:
         return "the cue's occurrence does not exist";
     case LIBRETTO_NOT_FORWARD:
         return "the cue does not stand behind the cue before it";
-    case LIBRETTO_BAD_DATE:
-        return "a date is not in the calendar's 2000 to 2099, or the first day is after the last";
     default:
-        return "the lent memory is too short";
+        return wrong != NULL ? wrong : "the lent memory is too short";
     }
 }
 
@@ -192,24 +172,31 @@ static void tell_not_forward(size_t k)
             (unsigned)before[1], (unsigned)before[2]);
 }
 
-/* Tells why the text, or a cue of the book, was refused. Of a cue that has been looked for it tells also which occurrence that was, and how many
- * there are, or where it stands. */
+/* Tells of a cue that has been looked for which occurrence that was, and how many there are, or where it stands. */
+static void tell_occurrence(uint32_t refusal, uint32_t index)
+{
+    size_t k = playing_at(index);
+    const libretto_cue *cue = &playing[k].cue;
+
+    fprintf(stderr, ": ordinal %u of ", (unsigned)cue->ordinal);
+    print_phrase(stderr, cue);
+    if (refusal == LIBRETTO_NOT_FORWARD)
+        tell_not_forward(k);
+    else
+        fprintf(stderr, ", total %u", (unsigned)list_refrain(cue));
+}
+
+/* Tells why the text, or a cue of the book, was refused. */
 static int refuse(const char *text_path, const char *book_path, uint32_t refusal, uint32_t number)
 {
+    int looked_for = refusal == LIBRETTO_NO_OCCURRENCE || refusal == LIBRETTO_NOT_FORWARD;
+
     if (refusal == LIBRETTO_LONG_TEXT)
         fprintf(stderr, "%s: %s", text_path, words(refusal));
     else
-        fprintf(stderr, "%s: cue %u: %s", book_path, (unsigned)number, words(refusal));
-    if (refusal == LIBRETTO_NO_OCCURRENCE || refusal == LIBRETTO_NOT_FORWARD) {
-        size_t k = playing_at(number);
-        const libretto_cue *cue = &playing[k].cue;
-        fprintf(stderr, ": ordinal %u of ", (unsigned)cue->ordinal);
-        print_phrase(stderr, cue);
-        if (refusal == LIBRETTO_NOT_FORWARD)
-            tell_not_forward(k);
-        else
-            fprintf(stderr, ", total %u", (unsigned)list_refrain(cue));
-    }
+        fprintf(stderr, "%s: %scue %u: %s", book_path, guest && looked_for ? "open " : "", (unsigned)number, words(refusal));
+    if (looked_for && !guest)
+        tell_occurrence(refusal, number);
     putc('\n', stderr);
     return REFUSED;
 }
@@ -259,13 +246,44 @@ static void print_refrains(void)
     }
 }
 
+/* Prints the entries of so many cues, which is all that a guest may have. */
+static void print_places(size_t cues)
+{
+    printf("place   line  column\n");
+    for (const uint32_t *entry = entries; entry < entries + cues * LIBRETTO_CUE_ENTRIES; entry += LIBRETTO_CUE_ENTRIES)
+        printf("%5u  %5u  %6u\n", (unsigned)entry[0], (unsigned)entry[1], (unsigned)entry[2]);
+}
+
+/* Reads the book and resolves it; gives 0 and prints the show file, or tells the refusal. */
+static int show(const char *text_path, const char *book_path)
+{
+    /* A guest may not read the book; the resolver reads it as a whole all the same. */
+    if (!guest) {
+        libretto_answer read = libretto_read_book(LIBRETTO_OPERATOR, book, book_len);
+        if (read.refusal != LIBRETTO_OK)
+            return refuse(text_path, book_path, read.refusal, read.number);
+        note_cues();
+    }
+    libretto_resolving resolved = resolve(0, book_len, entries, sizeof entries / sizeof *entries);
+    if (resolved.refusal != LIBRETTO_OK)
+        return refuse(text_path, book_path, resolved.refusal, resolved.number);
+    if (guest) {
+        print_places(resolved.number);
+    } else {
+        print_cues();
+        printf("\n");
+        print_refrains();
+    }
+    return 0;
+}
+
 int main(int argc, char **argv)
 {
-    int next = read_options(argc, argv);
+    int next = read_options(argc, argv, &guest);
     uint32_t date[3];
 
     if (next == 0 || argc != next + 3 || !read_date((const uint8_t *)argv[next], strlen(argv[next]), date)) {
-        fputs("usage: show [--page 1|15] [--bytes] DAY TEXT BOOK\n", stderr);
+        fputs("usage: show [--page 1|15] [--bytes] [--guest] DAY TEXT BOOK\n", stderr);
         return FAILED;
     }
     libretto_answer told = libretto_day(date[0], date[1], date[2]);
@@ -278,20 +296,10 @@ int main(int argc, char **argv)
     if (!read_file(text_path, text, TEXT_ROOM, &text_len) || !read_file(book_path, book, BOOK_ROOM, &book_len))
         return FAILED;
 
-    libretto_answer read = libretto_read_book(book, book_len);
-    if (read.refusal != LIBRETTO_OK)
-        return refuse(text_path, book_path, read.refusal, read.number);
-    note_cues();
-    libretto_resolving resolved = resolve(0, book_len, entries, sizeof entries / sizeof *entries);
-    if (resolved.refusal != LIBRETTO_OK)
-        return refuse(text_path, book_path, resolved.refusal, resolved.number);
-
-    print_cues();
-    printf("\n");
-    print_refrains();
+    int status = show(text_path, book_path);
     if (ferror(stdout) || fflush(stdout) != 0) {
         perror("standard output");
         return FAILED;
     }
-    return 0;
+    return status;
 }

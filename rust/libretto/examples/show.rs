@@ -1,13 +1,13 @@
-//! Prints the show file of a libretto and a cue book for a day: show [--page 1|15] [--bytes] DAY TEXT BOOK
+//! Prints the show file of a libretto and a cue book for a day: show [--page 1|15] [--bytes] [--guest] DAY TEXT BOOK
 //!
 //! It is `examples/show.c` over the safe interface and prints the same to the byte; what the show file holds is told there.
 
-use libretto::{day, find_all, fold_text, read_book, read_cue, resolve_all, CuePlace, Date, Method, Page, Refusal, ResolveError};
+use libretto::{day, find_all, fold_text, read_book, read_cue, resolve_all, BookError, CuePlace, Date, Method, Page, Refusal, Role};
 use std::env;
 use std::ffi::{OsStr, OsString};
 use std::fmt::Display;
 use std::fs;
-use std::io::{self, BufWriter, Write};
+use std::io::{self, Write};
 use std::path::Path;
 use std::process::ExitCode;
 
@@ -17,13 +17,14 @@ const FAILED: u8 = 2;
 
 const PLACES_A_ROW: usize = 10;
 
-const USAGE: &str = "usage: show [--page 1|15] [--bytes] DAY TEXT BOOK";
+const USAGE: &str = "usage: show [--page 1|15] [--bytes] [--guest] DAY TEXT BOOK";
 
-/// The page of text and book, and whether letters are printed as the bytes that they are on it, instead of in UTF-8.
+/// The page of text and book, whether letters are printed as the bytes that they are on it, instead of in UTF-8, and for whom the show file is.
 #[derive(Clone, Copy)]
 struct Options {
     page: Page,
     as_bytes: bool,
+    role: Role,
 }
 
 /// A cue that plays: its index in the book, what it is there and its bytes, and its phrase folded.
@@ -32,6 +33,14 @@ struct Cue<'a> {
     read: libretto::Cue<'a>,
     bytes: &'a [u8],
     folded: Vec<u8>,
+}
+
+/// A text and a book, and where they were read.
+struct Files<'a> {
+    text_path: &'a Path,
+    text: &'a [u8],
+    book_path: &'a Path,
+    book: &'a [u8],
 }
 
 /// Why there is no show file, or not all of it.
@@ -65,7 +74,7 @@ fn playing(day: u32, page: Page, book: &[u8]) -> Vec<Cue<'_>> {
     let mut playing = Vec::new();
     let (mut index, mut place) = (0, 0);
     while place < book.len() {
-        let read = read_cue(book, place).expect("the book was read before");
+        let read = read_cue(Role::Operator, book, place).expect("the book was read before");
         if read.plays(day) {
             playing.push(Cue { index, read, bytes: &book[place..read.end], folded: fold_all(page, read.phrase) });
         }
@@ -158,7 +167,7 @@ fn tell_missing(told: &mut Vec<u8>, cue: &Cue, folded_text: &[u8], options: Opti
 /// an occurrence.
 fn tell_not_forward(told: &mut Vec<u8>, day: u32, [before, cue]: [&Cue; 2], text: &[u8], options: Options) -> io::Result<()> {
     let [at_before, at] = [before, cue].map(|cue| {
-        let places = resolve_all(day, options.page, cue.bytes, text).expect("the cue was found before");
+        let places = resolve_all(Role::Operator, day, options.page, cue.bytes, text).expect("the cue was found before");
         places[0]
     });
     tell_occurrence(told, cue, options)?;
@@ -166,8 +175,9 @@ fn tell_not_forward(told: &mut Vec<u8>, day: u32, [before, cue]: [&Cue; 2], text
 }
 
 /// What the resolver refused of a cue that plays, with all that can be told of it.
-fn refused_cue(book_path: &Path, day: u32, error: ResolveError, cues: &[Cue], text: &[u8], options: Options) -> Failure {
-    let mut failure = Failure::refused(book_path, error);
+fn refused_cue(files: &Files, day: u32, error: BookError, cues: &[Cue], options: Options) -> Failure {
+    let text = files.text;
+    let mut failure = Failure::refused(files.book_path, error);
     let k = cues.iter().position(|cue| Some(cue.index) == error.cue).expect("the refused cue plays");
     let written = match error.refusal {
         Refusal::NoOccurrence => tell_missing(&mut failure.told, &cues[k], &fold_all(options.page, text), options),
@@ -177,24 +187,55 @@ fn refused_cue(book_path: &Path, day: u32, error: ResolveError, cues: &[Cue], te
     failure
 }
 
+/// The show file for the operator.
+fn show_cues(files: &Files, day: u32, options: Options) -> Result<Vec<u8>, Failure> {
+    read_book(Role::Operator, files.book).map_err(|refused| Failure::refused(files.book_path, refused))?;
+    let cues = playing(day, options.page, files.book);
+    let places = resolve_all(Role::Operator, day, options.page, files.book, files.text).map_err(|error| match error.cue {
+        Some(_) => refused_cue(files, day, error, &cues, options),
+        None => Failure::refused(files.text_path, error),
+    })?;
+    let mut shown = Vec::new();
+    print_cues(&mut shown, &cues, &places, options)
+        .and_then(|()| writeln!(shown))
+        .and_then(|()| print_refrains(&mut shown, &cues, &fold_all(options.page, files.text), options))
+        .expect("a vector takes all that is written");
+    Ok(shown)
+}
+
+/// What the resolver refused for a guest. The number of a cue that was looked for counts the open cues.
+fn refused_guest(files: &Files, error: BookError) -> Failure {
+    match (error.cue, error.refusal) {
+        (None, _) => Failure::refused(files.text_path, error),
+        (Some(_), Refusal::NoOccurrence | Refusal::NotForward) => Failure::refused(files.book_path, format!("open {error}")),
+        (Some(_), _) => Failure::refused(files.book_path, error),
+    }
+}
+
+/// The show file for a guest, who may have the entries alone.
+fn show_places(files: &Files, day: u32, options: Options) -> Result<Vec<u8>, Failure> {
+    let places = resolve_all(Role::Guest, day, options.page, files.book, files.text).map_err(|error| refused_guest(files, error))?;
+    let row = |at: &CuePlace| {
+        format!(
+            "{:5}  {:5}  {:6}
+",
+            at.place, at.line, at.column
+        )
+    };
+    Ok(format!(
+        "place   line  column
+{}",
+        places.iter().map(row).collect::<String>()
+    )
+    .into_bytes())
+}
+
 fn show(day: u32, text_path: &Path, book_path: &Path, options: Options) -> Result<(), Failure> {
     let read = |path: &Path| fs::read(path).map_err(|error| Failure::failed(path.display(), &error));
     let (text, book) = (read(text_path)?, read(book_path)?);
-
-    read_book(&book).map_err(|refused| Failure::refused(book_path, refused))?;
-    let cues = playing(day, options.page, &book);
-    let places = resolve_all(day, options.page, &book, &text).map_err(|error| match error.cue {
-        Some(_) => refused_cue(book_path, day, error, &cues, &text, options),
-        None => Failure::refused(text_path, error),
-    })?;
-
-    let folded_text = fold_all(options.page, &text);
-    let mut out = BufWriter::new(io::stdout().lock());
-    print_cues(&mut out, &cues, &places, options)
-        .and_then(|()| writeln!(out))
-        .and_then(|()| print_refrains(&mut out, &cues, &folded_text, options))
-        .and_then(|()| out.flush())
-        .map_err(|error| Failure::failed("standard output", &error))
+    let files = Files { text_path, text: &text, book_path, book: &book };
+    let shown = if options.role == Role::Guest { show_places(&files, day, options) } else { show_cues(&files, day, options) }?;
+    io::stdout().write_all(&shown).and_then(|()| io::stdout().flush()).map_err(|error| Failure::failed("standard output", &error))
 }
 
 fn named_page(argument: &OsStr) -> Option<Page> {
@@ -207,11 +248,15 @@ fn named_page(argument: &OsStr) -> Option<Page> {
 
 /// Reads the options at the front of the arguments, each at most once, and gives them with the arguments after them; nothing if an option is wrong.
 fn read_options(mut arguments: &[OsString]) -> Option<(Options, &[OsString])> {
-    let (mut page, mut as_bytes) = (None, false);
+    let (mut page, mut as_bytes, mut role) = (None, false, Role::Operator);
     while let [option, rest @ ..] = arguments {
         match (option.to_str(), rest) {
             (Some("--bytes"), _) if !as_bytes => {
                 as_bytes = true;
+                arguments = rest;
+            }
+            (Some("--guest"), _) if role == Role::Operator => {
+                role = Role::Guest;
                 arguments = rest;
             }
             (Some("--page"), [number, rest @ ..]) if page.is_none() => {
@@ -222,7 +267,7 @@ fn read_options(mut arguments: &[OsString]) -> Option<(Options, &[OsString])> {
             _ => break,
         }
     }
-    Some((Options { page: page.unwrap_or(Page::Latin1), as_bytes }, arguments))
+    Some((Options { page: page.unwrap_or(Page::Latin1), as_bytes, role }, arguments))
 }
 
 /// Reads a date written as year-month-day; whether there is such a date is not tested. A number that has no room is above all years as well.
