@@ -1,6 +1,7 @@
-//! Evenings: a day, and a book in which some cues play on it and others do not.
+//! Evenings: a role, a day, and a book in which some cues are resolved for them and others are passed over.
 
-use crate::books::{book, Cue, CUES, LAST_DAY, PHRASE};
+use crate::books::{book, Cue, CUES, LAST_DAY, MARKS, PHRASE};
+use crate::roles::{some_resolving, GUEST};
 use crate::Random;
 
 /// Numbers above the last day: the next ones, and some that are a day in their lowest 16 bits, or that would be negative.
@@ -29,43 +30,78 @@ pub fn days_beside(day: u16, random: &mut Random) -> (u16, u16) {
     (edge.min(other), edge.max(other))
 }
 
-/// The cues, of which some get days among which this one is, so that all of them play on it.
-pub fn all_playing(cues: &[Cue], day: u16, random: &mut Random) -> Vec<Cue> {
-    let dated = |cue: &Cue| Cue { days: (random.below(2) == 0).then(|| days_around(day, random)), ..cue.clone() };
-    cues.iter().map(dated).collect()
+/// The cues, of which some get days among which this one is, and some a mark, for a guest that of an open cue, so that all of them are resolved for this
+/// role on this day.
+pub fn all_resolved(role: u32, cues: &[Cue], day: u16, random: &mut Random) -> Vec<Cue> {
+    let marks = if role == GUEST { 2 } else { 3 };
+    let resolved = |cue: &Cue| {
+        let days = (random.below(2) == 0).then(|| days_around(day, random));
+        Cue { days, mark: MARKS[random.below(marks)], ..cue.clone() }
+    };
+    cues.iter().map(resolved).collect()
 }
 
-/// A day, the cues of a book, and the indices in it of those that play on the day.
+/// The cue with days or a mark for which it is passed over for this role on this day: it does not play, or it is house only, or both.
+pub fn passed_over(role: u32, cue: Cue, day: u16, random: &mut Random) -> Cue {
+    let by_mark = role == GUEST && random.below(2) == 0;
+    let days = match random.below(3) {
+        0 if by_mark => None,
+        1 if by_mark => Some(days_around(day, random)),
+        _ => Some(days_beside(day, random)),
+    };
+    Cue { days, mark: if by_mark { Some(1) } else { MARKS[random.below(3)] }, ..cue }
+}
+
+/// A role and a day, the cues of a book, and the indices in it of those that are resolved for them.
 #[derive(Debug)]
 pub struct Evening {
+    pub role: u32,
     pub day: u16,
     pub cues: Vec<Cue>,
-    pub playing: Vec<usize>,
+    pub resolved: Vec<usize>,
 }
 
 impl Evening {
-    /// The same cues, which play always.
-    pub fn plain(cues: &[Cue], random: &mut Random) -> Evening {
-        Evening { day: some_day(random), cues: cues.to_vec(), playing: (0..cues.len()).collect() }
+    /// An evening without cues.
+    pub fn empty(role: u32, random: &mut Random) -> Evening {
+        Evening { role, day: some_day(random), cues: Vec::new(), resolved: Vec::new() }
     }
 
-    /// These cues, which all play, with others between them that do not, as far as a book has room: up to so many in each gap, also before the first and
-    /// behind the last one.
+    /// The same cues, which play always and are open.
+    pub fn plain(cues: &[Cue], random: &mut Random) -> Evening {
+        let (role, day) = (some_resolving(random), some_day(random));
+        Evening { role, day, cues: cues.to_vec(), resolved: (0..cues.len()).collect() }
+    }
+
+    /// These cues, which are all resolved, with others between them that are not, as far as a book has room: up to so many in each gap, also before the
+    /// first and behind the last one.
     pub fn mixed(cues: &[Cue], most: usize, random: &mut Random) -> Evening {
-        let day = some_day(random);
-        let mut evening = Evening { day, cues: Vec::new(), playing: Vec::new() };
+        let role = some_resolving(random);
+        let mut evening = Evening::empty(role, random);
         let mut room = CUES - cues.len();
-        for (k, cue) in all_playing(cues, day, random).into_iter().enumerate() {
+        for (k, cue) in all_resolved(role, cues, evening.day, random).into_iter().enumerate() {
             evening.pass_over(cues, k, most, &mut room, random);
-            evening.playing.push(evening.cues.len());
-            evening.cues.push(cue);
+            evening.resolve(cue);
         }
         evening.pass_over(cues, cues.len(), most, &mut room, random);
         evening
     }
 
-    /// Puts some cues that do not play in the gap before the cue of this index. Each would be at fault if it played, or move those behind it to another
-    /// group: it stands in no text or at the place of a cue next to it, or has a long phrase.
+    /// Puts a cue that is resolved behind the others.
+    pub fn resolve(&mut self, cue: Cue) {
+        self.resolved.push(self.cues.len());
+        self.cues.push(cue);
+    }
+
+    /// The number by which a fault names the resolved cue of this index among them: the index in the book, and for a guest that among the open cues.
+    pub fn number(&self, resolved: usize) -> usize {
+        let index = self.resolved[resolved];
+        let house = self.cues[..index].iter().filter(|cue| cue.is_house()).count();
+        index - if self.role == GUEST { house } else { 0 }
+    }
+
+    /// Puts some cues that are passed over in the gap before the cue of this index. Each would be at fault if it was resolved, or move those behind it to
+    /// another group: it stands in no text or at the place of a cue next to it, or has a long phrase.
     fn pass_over(&mut self, cues: &[Cue], gap: usize, most: usize, room: &mut usize, random: &mut Random) {
         let count = random.between(0, most).min(*room);
         *room -= count;
@@ -73,8 +109,7 @@ impl Evening {
             let near = cues.get((gap + random.below(3)).saturating_sub(1)).filter(|_| random.below(2) == 0);
             let letters = [1, 2, 60, if random.below(8) == 0 { PHRASE } else { 3 }][random.below(4)];
             let other = near.cloned().unwrap_or_else(|| Cue::new(&vec![b'~'; letters], random.between(1, 9) as u16, b"off"));
-            let (first, last) = days_beside(self.day, random);
-            self.cues.push(other.on(first, last));
+            self.cues.push(passed_over(self.role, other, self.day, random));
         }
     }
 
@@ -95,7 +130,7 @@ impl Evening {
 #[cfg(test)]
 mod tests {
     use super::*;
-    use crate::books::playing_of;
+    use crate::books::resolved_of;
 
     /// What the tests are given is what they take it for.
     #[test]
@@ -117,13 +152,12 @@ mod tests {
             let count = random.below(if round % 100 == 0 { CUES + 1 } else { 9 });
             let cues: Vec<Cue> = (0..count).map(|k| Cue::new(b"la", k as u16 + 1, b"")).collect();
             let evening = Evening::any(&cues, &mut random);
-            let kept: Vec<Cue> = evening.playing.iter().map(|&index| Cue { days: None, ..evening.cues[index].clone() }).collect();
+            let kept: Vec<Cue> = evening.resolved.iter().map(|&index| Cue { days: None, mark: None, ..evening.cues[index].clone() }).collect();
             assert!(kept == cues && evening.cues.len() <= CUES, "{evening:?}");
             let book = evening.book();
-            for index in [0, 1, random.between(0, evening.cues.len()), evening.cues.len()] {
-                let index = index.min(evening.cues.len());
-                let before = evening.playing.iter().filter(|&&playing| playing < index).count();
-                assert_eq!(playing_of(&book, evening.day.into(), index), before, "the first {index} cues of {evening:?}");
+            for before in 0..evening.resolved.len() {
+                let number = evening.number(before);
+                assert_eq!(resolved_of(evening.role, &book, evening.day.into(), number), before, "the first {number} cues of {evening:?}");
             }
         }
     }

@@ -1,8 +1,9 @@
 //! The groups that cues are resolved in, and what a resolve of cues must come to and answer by them.
 
 use crate::books::{book, Cue};
-use crate::evenings::{all_playing, some_day, Evening};
+use crate::evenings::{all_resolved, some_day, Evening};
 use crate::pages::PAGES;
+use crate::roles::some_resolving;
 use crate::verses::{place_of, rising_of_lengths, total, verse, ALPHABETS};
 use crate::{compare_resolve, Lengths, Random};
 use libretto::RawResolving;
@@ -24,7 +25,7 @@ pub fn group_numbers(cues: &[Cue]) -> Vec<usize> {
     cues.iter().map(&mut take).collect()
 }
 
-/// What a resolve of cues that all play comes to: all stand in the text and run forward, or the first that does not, by its index.
+/// What a resolve of cues that are all resolved comes to: all stand in the text and run forward, or the first that does not, by its index.
 #[derive(Clone, Copy, Debug, PartialEq, Eq)]
 pub enum Outcome {
     Resolved,
@@ -76,33 +77,42 @@ pub fn books_of_four_groups(random: &mut Random) -> Vec<(u32, Vec<u8>, Vec<Cue>)
     lengths.iter().enumerate().map(&mut book).collect()
 }
 
+/// Cues of one phrase that stand at each letter of a text of letters a in turn.
+pub fn letters(count: usize) -> Vec<Cue> {
+    (1..=count).map(|ordinal| Cue::new(b"a", ordinal as u16, b"")).collect()
+}
+
+/// What the resolver answers.
+pub fn answer(refusal: u32, number: usize, reads: usize) -> RawResolving {
+    RawResolving { refusal, number: number as u32, reads: reads as u32 }
+}
+
 /// The cue with the ordinal after its phrase's last occurrence in the text.
 pub fn past_the_last(page: u32, cue: &Cue, text: &[u8]) -> Cue {
     Cue { ordinal: total(page, &cue.phrase, text) as u16 + 1, ..cue.clone() }
 }
 
-/// Resolves the cues on a day on which all of them play, in memory that is just long enough or somewhat longer.
+/// Resolves the cues for a role and on a day for which all of them are resolved, in memory that is just long enough or somewhat longer.
 pub fn resolve(page: u32, cues: &[Cue], text: &[u8], random: &mut Random) -> RawResolving {
-    let day = some_day(random);
+    let (role, day) = (some_resolving(random), some_day(random));
     let lengths = Lengths::enough(text.len(), cues.len()).or_more(random);
-    compare_resolve(day.into(), page, &book(&all_playing(cues, day, random)), text, lengths, random.next())
+    compare_resolve(role, day.into(), page, &book(&all_resolved(role, cues, day, random)), text, lengths, random.next())
 }
 
-/// Resolves the cues of an evening, which come to this, with the playing ones counted.
+/// Resolves the cues of an evening, which come to this, with the resolved ones counted.
 #[track_caller]
 pub fn resolve_evening(outcome: Outcome, page: u32, evening: &Evening, text: &[u8], random: &mut Random) {
-    let playing: Vec<Cue> = evening.playing.iter().map(|&index| evening.cues[index].clone()).collect();
-    let lengths = Lengths::enough(text.len(), playing.len()).or_more(random);
-    let answer = compare_resolve(evening.day.into(), page, &evening.book(), text, lengths, random.next());
-    let mut due = outcome.answer(&playing, text.len());
+    let resolved: Vec<Cue> = evening.resolved.iter().map(|&index| evening.cues[index].clone()).collect();
+    let lengths = Lengths::enough(text.len(), resolved.len()).or_more(random);
+    let answer = compare_resolve(evening.role, evening.day.into(), page, &evening.book(), text, lengths, random.next());
+    let mut due = outcome.answer(&resolved, text.len());
     if due.refusal != 0 {
-        // A fault names the index in the book.
-        due.number = evening.playing[due.number as usize] as u32;
+        due.number = evening.number(due.number as usize) as u32;
     }
     assert_eq!(answer, due, "page {page}, {outcome:?}, {evening:?} in \"{}\"", text.escape_ascii());
 }
 
-/// Resolves cues that come to this, on an evening on which they all play and others in the book may not.
+/// Resolves cues that come to this, on an evening on which they are all resolved and others in the book may not be.
 #[track_caller]
 pub fn resolve_to(outcome: Outcome, page: u32, cues: &[Cue], text: &[u8], random: &mut Random) {
     let evening = Evening::any(cues, random);

@@ -17,12 +17,13 @@ mod lent;
 pub mod pages;
 pub mod programs;
 mod resolver;
+pub mod roles;
 pub mod verses;
 pub mod words;
 pub mod xml;
 
 pub use calendar::{compare_date, compare_day};
-pub use cue_book::{compare_book, compare_cue, compare_field, compare_write, Dating};
+pub use cue_book::{compare_book, compare_cue, compare_field, compare_retitle, compare_write, numbers, Ending};
 pub use find::{compare, compare_moves, needed, METHODS};
 pub use fold::{compare_fold, compare_letter};
 pub use late_cuts::{compare_relists, Cut};

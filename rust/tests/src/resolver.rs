@@ -1,6 +1,6 @@
 //! The resolver, by the library and by the reference.
 
-use crate::books::{playing_of, MORE};
+use crate::books::{resolved_of, MORE};
 use crate::lent::{dirt, Lent, Shown};
 use crate::{Faults, Random};
 use libretto::{resolve_raw, RawResolving, ResolverMemory, RESOLVER_SCRATCH};
@@ -15,7 +15,7 @@ pub struct Lengths {
 }
 
 impl Lengths {
-    /// Just enough for a text of n bytes and so many cues that play.
+    /// Just enough for a text of n bytes and so many cues that are resolved.
     pub fn enough(n: usize, cues: usize) -> Lengths {
         Lengths { copy: n, scratch: RESOLVER_SCRATCH, entries: 3 * cues }
     }
@@ -70,22 +70,23 @@ impl Memory {
     }
 
     /// Calls the library and the reference.
-    fn call(&mut self, day: u32, page: u32, book: &[u8], text: &[u8]) -> (RawResolving, (u32, u32, u32)) {
+    fn call(&mut self, role: u32, day: u32, page: u32, book: &[u8], text: &[u8]) -> (RawResolving, (u32, u32, u32)) {
         let (copy, reference_copy) = self.copy.lend();
         let (scratch, reference_scratch) = self.scratch.lend();
         let (entries, reference_entries) = self.entries.lend();
-        let raw = resolve_raw(day, page, self.book.entries(), self.text.entries(), &mut ResolverMemory { copy, scratch, entries });
-        (raw, reference::resolve(day, page, book, text, reference_copy, reference_scratch, reference_entries))
+        let raw = resolve_raw(role, day, page, self.book.entries(), self.text.entries(), &mut ResolverMemory { copy, scratch, entries });
+        let lent = reference::Lent { copy: reference_copy, scratch: reference_scratch, entries: reference_entries };
+        (raw, reference::resolve(role, day, page, book, text, lent))
     }
 
-    /// What is wrong with the memory, told without the reference.
-    fn kept_and_cleared(&self, day: u32, book: &[u8], raw: RawResolving, held: &Held, faults: &mut Faults) {
+    /// What is wrong with the memory, told without the reference, but with how many cues are resolved before the one of a number.
+    fn kept_and_cleared(&self, earlier: impl Fn(usize) -> usize, raw: RawResolving, held: &Held, faults: &mut Faults) {
         if [0, 12, 15].contains(&raw.refusal) {
             // All entries are joined without a stop at the first, which the compiler does for many of them at a time.
             let joined = self.scratch.left().iter().fold(0, |bits, &entry| bits | entry);
             faults.when(joined != 0, "the scratch is not 0 throughout");
             let number = raw.number as usize;
-            let rest = 3 * if raw.refusal == 0 { number } else { playing_of(book, day, number) }..;
+            let rest = 3 * if raw.refusal == 0 { number } else { earlier(number) }..;
             faults.when(self.entries.left().get(rest.clone()) != held.entries.get(rest), "an entry that is not due was written");
         } else {
             let work = self.copy.left() == held.copy && self.scratch.left() == held.scratch;
@@ -97,11 +98,11 @@ impl Memory {
 /// Calls the library and the reference with equal arguments and compares the answers and all of copy, scratch and entries with guards on both sides. All
 /// three are dirty before the call, by the seed. In memory the text is followed by itself and the book by one more cue. Any difference ends the test
 /// with the whole case.
-pub fn compare_resolve(day: u32, page: u32, book: &[u8], text: &[u8], lengths: Lengths, seed: u64) -> RawResolving {
+pub fn compare_resolve(role: u32, day: u32, page: u32, book: &[u8], text: &[u8], lengths: Lengths, seed: u64) -> RawResolving {
     let held = Held::new(page, text, lengths, seed);
     MEMORY.with_borrow_mut(|memory| {
         memory.prepare(book, text, &held);
-        let (raw, reference) = memory.call(day, page, book, text);
+        let (raw, reference) = memory.call(role, day, page, book, text);
         let library = (raw.refusal, raw.number, raw.reads);
 
         let mut faults = Faults::default();
@@ -112,11 +113,11 @@ pub fn compare_resolve(day: u32, page: u32, book: &[u8], text: &[u8], lengths: L
         faults.when(!memory.book.intact(book, MORE) || !memory.text.intact(text, text), "book or text was written");
         // Where the answers differ, the library's number need not be one of the book's.
         if library == reference {
-            memory.kept_and_cleared(day, book, raw, &held, &mut faults);
+            memory.kept_and_cleared(|number| resolved_of(role, book, day, number), raw, &held, &mut faults);
         }
         faults.judge(|| {
             format!(
-                "day {day}, page {page}, book of {} bytes, text of {} bytes, {lengths:?}, seed {seed}\nbook: \"{}\"\ntext: \"{}\"\n\
+                "role {role}, day {day}, page {page}, book of {} bytes, text of {} bytes, {lengths:?}, seed {seed}\nbook: \"{}\"\ntext: \"{}\"\n\
                  (refusal, number, reads): library {library:?}, reference {reference:?}",
                 book.len(),
                 text.len(),

@@ -82,7 +82,7 @@ pub fn place_of(page: u32, cue: &Cue, text: &[u8]) -> Option<usize> {
 pub fn cue_at(page: u32, text: &[u8], place: usize, length: usize, random: &mut Random) -> Cue {
     let stretch = &text[place..place + length];
     let ordinal = total(page, stretch, &text[..place + length]);
-    Cue { phrase: in_any_case(page, stretch, random), ordinal: ordinal as u16, title: random.word(2, length % 4), days: None }
+    Cue { phrase: in_any_case(page, stretch, random), ordinal: ordinal as u16, title: random.word(2, length % 4), days: None, mark: None }
 }
 
 /// A cue that stands in the text, which is not empty: a stretch of up to `longest` letters, at any place.
@@ -138,5 +138,5 @@ pub fn missing(page: u32, alphabet: &[u8], text: &[u8], random: &mut Random) -> 
     };
     let total = total(page, &phrase, text);
     let ordinal = [total + 1, total + 1, random.between(total + 1, 65_535)][random.below(3)];
-    Cue { phrase, ordinal: ordinal as u16, title: Vec::new(), days: None }
+    Cue::new(&phrase, ordinal as u16, b"")
 }

@@ -2,11 +2,12 @@
 //! whatever is wrong with them, groups of the playing cues alone, and faults of the book in cues that do not play. What a call leaves in its memory is
 //! compared in every call. That a number that is no day comes before every other refusal is tested with the resolver's other limits.
 
-use libretto::{resolve, resolve_all, CuePlace, Page, RawResolving, Refusal, ResolveError, ResolverMemory, Resolving, RESOLVER_SCRATCH};
-use libretto_tests::books::{book, playing_of, Cue, CUES, LAST_DAY, PHRASE};
-use libretto_tests::evenings::{all_playing, days_beside, some_day, Evening};
-use libretto_tests::groups::{group_numbers, past_the_last, resolve_evening, Outcome, GROUP_BYTES, GROUP_CUES};
+use libretto::{resolve, resolve_all, BookError, CuePlace, Page, RawResolving, Refusal, ResolverMemory, Resolving, Role, RESOLVER_SCRATCH};
+use libretto_tests::books::{book, resolved_of, Cue, CUES, LAST_DAY, PHRASE};
+use libretto_tests::evenings::{all_resolved, days_beside, passed_over, some_day, Evening};
+use libretto_tests::groups::{answer, group_numbers, letters, past_the_last, resolve_evening, Outcome, GROUP_BYTES, GROUP_CUES};
 use libretto_tests::pages::PAGES;
+use libretto_tests::roles::{some_resolving, OPERATOR, RESOLVING};
 use libretto_tests::verses::{missing, not_behind, place_of, rising, rising_of_lengths, verse, ALPHABETS};
 use libretto_tests::{compare_resolve, report, Lengths, Random};
 
@@ -15,16 +16,7 @@ const TEXT: usize = 32_768;
 
 /// Resolves a book on a day, in memory that is just long enough for so many playing cues.
 fn resolve_on(day: u32, page: u32, cues: &[Cue], text: &[u8], playing: usize, random: &mut Random) -> RawResolving {
-    compare_resolve(day, page, &book(cues), text, Lengths::enough(text.len(), playing), random.next())
-}
-
-/// Cues of one phrase that stand at each letter of a text in turn.
-fn letters(count: usize) -> Vec<Cue> {
-    (1..=count).map(|ordinal| Cue::new(b"a", ordinal as u16, b"")).collect()
-}
-
-fn answer(refusal: u32, number: usize, reads: usize) -> RawResolving {
-    RawResolving { refusal, number: number as u32, reads: reads as u32 }
+    compare_resolve(some_resolving(random), day, page, &book(cues), text, Lengths::enough(text.len(), playing), random.next())
 }
 
 /// Each of three cues with days from each day to each other, on every day around them.
@@ -43,7 +35,7 @@ fn every_day_around_the_days() {
                 let places: Vec<u32> = cues.iter().filter(plays).map(|cue| u32::from(cue.ordinal) - 1).collect();
                 let count = places.len();
                 assert_eq!(resolve_on(day.into(), 1, &cues, b"AaA", count, &mut random), answer(0, count, 3), "day {day}, {cues:?}");
-                let found = resolve_all(day.into(), Page::Latin9, &book(&cues), b"AaA");
+                let found = resolve_all(Role::Guest, day.into(), Page::Latin9, &book(&cues), b"AaA");
                 let due = places.iter().map(|&place| CuePlace { place, line: 1, column: place + 1 }).collect();
                 assert_eq!(found, Ok(due), "day {day}, {cues:?}");
             }
@@ -80,12 +72,12 @@ fn every_choice_of_playing_cues() {
     let text = b"aAaAaA";
     for choice in 0..64usize {
         for kind in 0..4 {
-            for page in PAGES {
+            for (page, role) in PAGES.into_iter().flat_map(|page| RESOLVING.map(|role| (page, role))) {
                 let day = some_day(&mut random);
-                let mut evening = Evening { day, cues: all_playing(&letters(6), day, &mut random), playing: Vec::new() };
+                let mut evening = Evening { role, day, cues: all_resolved(role, &letters(6), day, &mut random), resolved: Vec::new() };
                 for k in 0..6 {
                     if choice >> k & 1 == 1 {
-                        evening.playing.push(k);
+                        evening.resolved.push(k);
                         continue;
                     }
                     let (phrase, ordinal): (&[u8], u16) = [(&b"b"[..], 1), (b"a", 7), (b"a", k.max(1) as u16), (b"a", 6)][kind];
@@ -96,10 +88,11 @@ fn every_choice_of_playing_cues() {
             }
         }
     }
-    report("every_choice_of_playing_cues", 64 * 4 * 2);
+    report("every_choice_of_playing_cues", 64 * 4 * 4);
 }
 
-/// A fault at each playing cue, with cues that do not play before it, between and behind: the index is that in the book.
+/// A fault at each resolved cue, with cues that are passed over before it, between and behind: the index is that in the book, and for a guest that among
+/// its open cues.
 #[test]
 fn faults_name_the_index_in_the_book() {
     let mut random = Random::new(104);
@@ -154,38 +147,37 @@ fn forward_over_a_cue_that_does_not_play() {
     report("forward_over_a_cue_that_does_not_play", 343 * 2);
 }
 
-/// Entries for exactly the playing cues are enough, and one fewer is refused with zeros, however many cues the book has.
+/// Entries for exactly the resolved cues are enough, and one fewer is refused with zeros, however many cues the book has. The others do not play, or are
+/// house only for a guest, or both.
 #[test]
-fn entries_for_the_playing_cues() {
+fn entries_for_the_resolved_cues() {
     let mut random = Random::new(106);
-    for (count, every) in [(1, 1), (2, 2), (7, 2), (130, 3), (CUES, 2), (CUES, 10), (CUES, CUES)] {
+    let books = [(1, 1), (2, 2), (7, 2), (130, 3), (CUES, 2), (CUES, 10), (CUES, CUES)];
+    for ((count, every), role) in books.into_iter().flat_map(|book| RESOLVING.map(|role| (book, role))) {
         let day = some_day(&mut random);
         let text = vec![b'a'; count];
-        // One cue in so many plays.
-        let off = |cue: Cue, random: &mut Random| {
-            let (first, last) = days_beside(day, random);
-            cue.on(first, last)
-        };
-        let cues: Vec<Cue> =
-            letters(count).into_iter().enumerate().map(|(k, cue)| if k % every == 0 { cue } else { off(cue, &mut random) }).collect();
-        let playing = count.div_ceil(every);
-        let reads = count * playing.div_ceil(GROUP_CUES);
-        let lengths = (0..3 * playing + 4).rev().take(12).chain([0, 1, 3 * count, 3 * count - 1]);
-        for entries in lengths {
-            let lengths = Lengths { entries, ..Lengths::enough(count, playing) };
-            let given = compare_resolve(day.into(), PAGES[entries % 2], &book(&cues), &text, lengths, random.next());
-            let due = if entries < 3 * playing { answer(11, 0, 0) } else { answer(0, playing, reads) };
-            assert_eq!(given, due, "{playing} of {count} cues play, {entries} entries");
+        // One cue in so many is resolved.
+        let mut cues = all_resolved(role, &letters(count), day, &mut random);
+        for (_, cue) in cues.iter_mut().enumerate().filter(|(k, _)| k % every != 0) {
+            *cue = passed_over(role, cue.clone(), day, &mut random);
+        }
+        let resolved = count.div_ceil(every);
+        let reads = count * resolved.div_ceil(GROUP_CUES);
+        for entries in (0..3 * resolved + 4).rev().take(12).chain([0, 1, 3 * count, 3 * count - 1]) {
+            let lengths = Lengths { entries, ..Lengths::enough(count, resolved) };
+            let given = compare_resolve(role, day.into(), PAGES[entries % 2], &book(&cues), &text, lengths, random.next());
+            let due = if entries < 3 * resolved { answer(11, 0, 0) } else { answer(0, resolved, reads) };
+            assert_eq!(given, due, "role {role}, {resolved} of {count} cues are resolved, {entries} entries");
         }
     }
-    report("entries_for_the_playing_cues", 7 * 10);
+    report("entries_for_the_resolved_cues", 14 * 10);
 }
 
-/// Books of many cues in which those that do not play would change the groups, by their number or by their bytes: the reads count the playing ones'.
+/// Books of many cues in which those that are passed over would change the groups, by their number or by their bytes: the reads count the resolved ones'.
 #[test]
-fn groups_of_the_playing_cues() {
+fn groups_of_the_resolved_cues() {
     let mut random = Random::new(107);
-    // The lengths of the playing cues' phrases, and how many groups these are.
+    // The lengths of the resolved cues' phrases, and how many groups these are.
     let books = [
         (vec![1; GROUP_CUES], 1),
         (vec![1; GROUP_CUES + 1], 2),
@@ -208,7 +200,7 @@ fn groups_of_the_playing_cues() {
             for (phrase, everywhere) in [(1, false), (1, true), (PHRASE, false), (GROUP_BYTES / GROUP_CUES + 1, true)] {
                 let evening = crowded(&cues, off, phrase, everywhere, &mut random);
                 resolve_evening(Outcome::Resolved, page, &evening, &text, &mut random);
-                // The last playing cue is missing, and then the first of the last group or the one before it.
+                // The last resolved cue is missing, and then the first of the last group or the one before it.
                 let group = group_numbers(&cues).iter().position(|&number| number == groups).expect("there is a last group");
                 for fault in [cues.len() - 1, group, group.saturating_sub(1)] {
                     let mut changed = cues.clone();
@@ -219,13 +211,12 @@ fn groups_of_the_playing_cues() {
             }
         }
     }
-    report("groups_of_the_playing_cues", 11 * 5 * 4 * 4);
+    report("groups_of_the_resolved_cues", 11 * 5 * 4 * 4);
 }
 
-/// These cues, which play, and so many that do not, with phrases of this length: all in one gap, or spread over the gaps.
+/// These cues, which are resolved, and so many that are passed over, with phrases of this length: all in one gap, or spread over the gaps.
 fn crowded(cues: &[Cue], off: usize, phrase: usize, everywhere: bool, random: &mut Random) -> Evening {
-    let day = some_day(random);
-    let mut evening = Evening { day, cues: Vec::new(), playing: Vec::new() };
+    let mut evening = Evening::empty(some_resolving(random), random);
     let gap = random.between(0, cues.len());
     let mut left = off.min(CUES - cues.len());
     let each = left.div_ceil(cues.len() + 1);
@@ -239,12 +230,11 @@ fn crowded(cues: &[Cue], off: usize, phrase: usize, everywhere: bool, random: &m
         };
         left -= here;
         for _ in 0..here {
-            let (first, last) = days_beside(day, random);
-            evening.cues.push(Cue::new(&vec![b'x'; phrase], 1, b"").on(first, last));
+            let off = Cue::new(&vec![b'x'; phrase], 1, b"");
+            evening.cues.push(passed_over(evening.role, off, evening.day, random));
         }
         if let Some(cue) = cue {
-            evening.playing.push(evening.cues.len());
-            evening.cues.push(cue.clone());
+            evening.resolve(cue.clone());
         }
     }
     evening
@@ -265,7 +255,7 @@ fn no_cue_plays() {
                 let given = resolve_on(day.into(), page, &cues, text, 0, &mut random);
                 assert_eq!(given, answer(0, 0, 0), "page {page}, day {day}, {count} cues in {} letters", text.len());
                 let lengths = Lengths { copy: text.len() + 9, scratch: 80_000, entries: 7 };
-                let given = compare_resolve(day.into(), page, &book(&cues), text, lengths, random.next());
+                let given = compare_resolve(some_resolving(&mut random), day.into(), page, &book(&cues), text, lengths, random.next());
                 assert_eq!(given, answer(0, 0, 0), "page {page}, day {day}, {count} cues in {} letters, {lengths:?}", text.len());
             }
         }
@@ -280,7 +270,7 @@ fn no_cue_plays_and_all_is_left() {
     for page in Page::ALL {
         let (mut copy, mut scratch, mut entries) = ([7; 9], vec![7; RESOLVER_SCRATCH + 5], [7; 6]);
         let mut memory = ResolverMemory { copy: &mut copy, scratch: &mut scratch, entries: &mut entries };
-        assert_eq!(resolve(9569, page, &book(&cues), b"La La", &mut memory), Ok(Resolving { cues: 0, reads: 0 }));
+        assert_eq!(resolve(Role::Operator, 9569, page, &book(&cues), b"La La", &mut memory), Ok(Resolving { cues: 0, reads: 0 }));
         assert_eq!((copy, entries), (*b"la la\x07\x07\x07\x07", [7; 6]), "{page:?}");
         assert!(scratch.iter().all(|&entry| entry == 0), "{page:?}: the scratch is not 0 throughout");
     }
@@ -299,7 +289,7 @@ fn two_casts() {
         for page in Page::ALL {
             let (mut copy, mut scratch, mut entries) = ([7; 14], vec![7; RESOLVER_SCRATCH], [7; 20]);
             let mut memory = ResolverMemory { copy: &mut copy, scratch: &mut scratch, entries: &mut entries };
-            let given = resolve(day, page, &book(&cues), text, &mut memory);
+            let given = resolve(Role::Operator, day, page, &book(&cues), text, &mut memory);
             assert_eq!(given, Ok(Resolving { cues: playing.len(), reads: 14 }), "{page:?}, day {day}");
             let written: Vec<u32> = playing.iter().flat_map(|&cue| rows[cue]).collect();
             assert_eq!(entries[..written.len()], written, "{page:?}, day {day}");
@@ -310,8 +300,8 @@ fn two_casts() {
     }
     // Both casts at once do not run forward: the third cue stands behind the fourth.
     let overlapping = [always(b"tra", 1), cast(b"la", 1, 5, 20), cast(b"la", 2, 1, 10), cast(b"a l", 1, 5, 20), always(b"lala", 1)];
-    let refused = ResolveError { refusal: Refusal::NotForward, cue: Some(3) };
-    assert_eq!(resolve_all(7, Page::Latin1, &book(&overlapping), text), Err(refused));
+    let refused = BookError { refusal: Refusal::NotForward, cue: Some(3) };
+    assert_eq!(resolve_all(Role::Operator, 7, Page::Latin1, &book(&overlapping), text), Err(refused));
 }
 
 /// A fault of the book in a cue that does not play: the whole book is read first, so that it is refused with that cue's index, and nothing is written.
@@ -358,7 +348,7 @@ fn faults_of_the_book_in_cues_that_do_not_play() {
                 let bytes = [&before[..], &damaged, &after].concat();
                 for page in PAGES {
                     let lengths = Lengths::enough(3, 1).or_more(&mut random);
-                    let given = compare_resolve(day.into(), page, &bytes, b"AaA", lengths, random.next());
+                    let given = compare_resolve(some_resolving(&mut random), day.into(), page, &bytes, b"AaA", lengths, random.next());
                     assert_eq!(given, answer(refusal, fault, 0), "page {page}, day {day}, cue {fault} of {count} is {damaged:?}");
                 }
             }
@@ -370,7 +360,7 @@ fn faults_of_the_book_in_cues_that_do_not_play() {
             let full = book(&vec![Cue::new(b"b", 1, b"").on(first, last); CUES]);
             for rest in [&[1][..], &[4], &Cue::new(b"b", 1, b"").on(first, last).bytes()] {
                 let lengths = Lengths::enough(3, 0).or_more(&mut random);
-                let given = compare_resolve(day.into(), 1, &[&full, rest].concat(), b"AaA", lengths, random.next());
+                let given = compare_resolve(some_resolving(&mut random), day.into(), 1, &[&full, rest].concat(), b"AaA", lengths, random.next());
                 assert_eq!(given, answer(10, CUES, 0), "{rest:?} behind {CUES} cues");
             }
         }
@@ -423,10 +413,10 @@ fn random_books_on_many_days() {
         for day in 8999..=9024u16 {
             let plays = |cue: &Cue| cue.days.is_none_or(|(first, last)| first <= day && day <= last);
             let playing: Vec<usize> = (0..cues.len()).filter(|&index| plays(&cues[index])).collect();
-            assert_eq!(playing_of(&book(&cues), day.into(), cues.len()), playing.len());
+            assert_eq!(resolved_of(OPERATOR, &book(&cues), day.into(), cues.len()), playing.len());
             off += usize::from(playing.len() < cues.len());
             let of_day: Vec<Cue> = playing.iter().map(|&index| cues[index].clone()).collect();
-            let evening = Evening { day, cues: cues.clone(), playing };
+            let evening = Evening { role: some_resolving(&mut random), day, cues: cues.clone(), resolved: playing };
             let outcome = Outcome::of(page, &of_day, &text);
             resolve_evening(outcome, page, &evening, &text, &mut random);
             met[outcome.answer(&of_day, n).refusal as usize] += 1;

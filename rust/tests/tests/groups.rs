@@ -1,12 +1,13 @@
 //! Books resolved in groups, each by one automaton: phrases that are parts of each other, groups at their limits and many of them, faults in each part of
 //! a group, and every length of scratch. The reads are known here by a count of the groups that is not the reference's.
 
-use libretto::{resolve_all, CuePlace, Page, RawResolving};
+use libretto::{resolve_all, CuePlace, Page, RawResolving, Role};
 use libretto_tests::books::{book, Cue, CUES, PHRASE};
-use libretto_tests::evenings::{all_playing, some_day};
+use libretto_tests::evenings::{all_resolved, some_day};
 use libretto_tests::groups::{books_of_four_groups, group_numbers, past_the_last, Outcome, GROUP_BYTES, GROUP_CUES};
 use libretto_tests::groups::{resolve, resolve_missing, resolve_rising, resolve_to};
 use libretto_tests::pages::PAGES;
+use libretto_tests::roles::{some_resolving, GUEST};
 use libretto_tests::verses::{cue_at, in_any_case, missing, not_behind, place_of, rising, rising_of_lengths, total, verse, word, ALPHABETS};
 use libretto_tests::words::{all_words, fibonacci, periodic};
 use libretto_tests::{compare_resolve, report, Lengths, Random};
@@ -342,8 +343,15 @@ fn a_fault_of_the_book_behind_groups() {
         for (refusal, damaged) in [(7, last[..last.len() - 1].to_vec()), (8, [&b"\x02"[..], &last[1..]].concat()), (9, b"\x01\x00\x00".to_vec())] {
             for page in PAGES {
                 let lengths = Lengths::enough(8, count + 1).or_more(&mut random);
-                let answer =
-                    compare_resolve(some_day(&mut random).into(), page, &[&whole[..], &damaged].concat(), b"la la\nla", lengths, random.next());
+                let answer = compare_resolve(
+                    some_resolving(&mut random),
+                    some_day(&mut random).into(),
+                    page,
+                    &[&whole[..], &damaged].concat(),
+                    b"la la\nla",
+                    lengths,
+                    random.next(),
+                );
                 assert_eq!(answer, RawResolving { refusal, number: count as u32, reads: 0 }, "page {page}, {count} cues before the refused one");
             }
         }
@@ -373,7 +381,8 @@ fn most_cues_in_groups() {
 fn with_scratch(page: u32, cues: &[Cue], text: &[u8], scratch: usize, random: &mut Random) -> RawResolving {
     let lengths = Lengths { copy: text.len() + random.below(300), scratch, ..Lengths::enough(text.len(), cues.len()) };
     let day = some_day(random);
-    compare_resolve(day.into(), page, &book(&all_playing(cues, day, random)), text, lengths, random.next())
+    let role = some_resolving(random);
+    compare_resolve(role, day.into(), page, &book(&all_resolved(role, cues, day, random)), text, lengths, random.next())
 }
 
 /// Scratches just too short, just long enough and longer, for groups with few states and with the most, and with few letters and with all.
@@ -476,7 +485,7 @@ fn random_books() {
 fn resolve_in_full(page: Page, cues: &[Cue], text: &[u8], random: &mut Random) {
     resolve_rising(page.number(), cues, text, random);
     let day = some_day(random);
-    let found = resolve_all(day.into(), page, &book(&all_playing(cues, day, random)), text).expect("all cues stand in the text");
+    let found = resolve_all(Role::Guest, day.into(), page, &book(&all_resolved(GUEST, cues, day, random)), text).expect("all cues stand in the text");
     let due = cues.iter().map(|cue| place_of(page.number(), cue, text));
     let given = found.iter().map(|&CuePlace { place, .. }| Some(place as usize));
     assert!(given.eq(due), "{page:?}, {cues:?} in \"{}\": {found:?}", text.escape_ascii());

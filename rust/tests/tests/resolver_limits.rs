@@ -1,10 +1,11 @@
 //! The refusals of the resolver, their order, and what a call leaves that was refused. That all but 12 and 15 leave everything as before is tested in
 //! every compared call, without the reference.
 
-use libretto::{resolve, resolve_all, resolve_raw, Page, RawResolving, Refusal, ResolveError, ResolverMemory, Resolving, RESOLVER_SCRATCH};
+use libretto::{resolve, resolve_all, resolve_raw, BookError, Page, RawResolving, Refusal, ResolverMemory, Resolving, Role, RESOLVER_SCRATCH};
 use libretto_tests::books::{book, Cue, MORE};
 use libretto_tests::evenings::NO_DAYS;
 use libretto_tests::pages::{unknown_pages, PAGES};
+use libretto_tests::roles::{some_resolving, unknown_roles, GUEST, RESOLVING, TRANSLATOR};
 use libretto_tests::{compare_resolve, report, Lengths, Random};
 
 /// The day on which cues are resolved here.
@@ -60,13 +61,15 @@ fn cases() -> Vec<Case> {
 }
 
 /// The answer by the words of document 01, and of document 02, (iv), which puts the page between scratch and copy, (vi), which counts the reads, (vii),
-/// which puts 15 behind 12, and (viii), which puts the day before all and takes the playing cues alone. All books that are not refused have one group,
-/// and those without cues that play have none.
-fn due(day: u32, page: u32, case: &Case, n: usize, lengths: Lengths) -> RawResolving {
+/// which puts 15 behind 12, (viii), which puts the day before all and takes the playing cues alone, and (xiv), which puts the role before that. All books
+/// that are not refused have one group, and those without cues that play have none. All their cues are open.
+fn due(role: u32, day: u32, page: u32, case: &Case, n: usize, lengths: Lengths) -> RawResolving {
     let refused = |refusal: Refusal| RawResolving { refusal: refusal.number(), number: 0, reads: 0 };
     let at_fault = |(refusal, cue)| RawResolving { refusal, number: cue, reads: n as u32 };
     let (refusal, number) = case.read;
-    if day > 36_524 {
+    if !RESOLVING.contains(&role) {
+        refused(Refusal::NotAllowed)
+    } else if day > 36_524 {
         refused(Refusal::BadDate)
     } else if n > 32_768 {
         refused(Refusal::LongText)
@@ -96,12 +99,13 @@ impl Case {
     }
 }
 
-/// A page of the two in turn, and an unknown one, a day and a number that is none, meet every limit beside every other.
+/// A role that may resolve and one that may not, a page of the two in turn, and an unknown one, a day and a number that is none, meet every limit beside
+/// every other.
 #[test]
 fn every_limit_with_every_other() {
     let mut random = Random::new(61);
-    let mut met = [0; 17];
-    let unknown = unknown_pages();
+    let mut met = [0; 20];
+    let (unknown, others) = (unknown_pages(), [vec![TRANSLATOR; 10], unknown_roles()].concat());
     let text = vec![b'a'; 40_000];
     for case in cases() {
         for n in [0usize, 2, 7, 32_767, 32_768, 32_769, 40_000] {
@@ -111,10 +115,12 @@ fn every_limit_with_every_other() {
                         let lengths = Lengths { copy, scratch, entries };
                         let (known, unknown) = (PAGES[random.below(2)], unknown[random.below(unknown.len())]);
                         let none = NO_DAYS[random.below(NO_DAYS.len())];
-                        for (day, page) in [(DAY, known), (DAY, unknown), (none, [known, unknown][random.below(2)])] {
-                            let answer = compare_resolve(day, page, &case.book, &text[..n], lengths, random.next());
-                            let due = due(day, page, &case, n, lengths);
-                            assert_eq!(answer, due, "day {day}, page {page}, {:?} in {n} letters, {lengths:?}", case.read);
+                        let (any_day, any_page) = ([DAY, none][random.below(2)], [known, unknown][random.below(2)]);
+                        let [role, other] = [some_resolving(&mut random), others[random.below(others.len())]];
+                        for (role, day, page) in [(role, DAY, known), (role, DAY, unknown), (role, none, any_page), (other, any_day, any_page)] {
+                            let answer = compare_resolve(role, day, page, &case.book, &text[..n], lengths, random.next());
+                            let due = due(role, day, page, &case, n, lengths);
+                            assert_eq!(answer, due, "role {role}, day {day}, page {page}, {:?} in {n} letters, {lengths:?}", case.read);
                             met[answer.refusal as usize] += 1;
                         }
                     }
@@ -122,8 +128,8 @@ fn every_limit_with_every_other() {
             }
         }
     }
-    assert!([0, 4, 5, 6, 7, 8, 9, 10, 11, 12, 14, 15, 16].iter().all(|&refusal| met[refusal] > 30), "the calls met too little: {met:?}");
-    report("every_limit_with_every_other", 3 * 17 * 7 * 4 * 4 * 5);
+    assert!([0, 4, 5, 6, 7, 8, 9, 10, 11, 12, 14, 15, 16, 19].iter().all(|&refusal| met[refusal] > 30), "the calls met too little: {met:?}");
+    report("every_limit_with_every_other", 4 * 17 * 7 * 4 * 4 * 5);
 }
 
 /// Every number that is no day, in calls that meet each other refusal besides, and in those that meet none: 16 comes first of all, with zeros. Each of
@@ -143,10 +149,10 @@ fn numbers_that_are_no_day_come_first() {
             (15, 7, Lengths { copy: 6, ..enough(7) }),
             (1, 7, Lengths { entries: 2, ..enough(7) }),
         ] {
-            let other = compare_resolve(DAY, page, &case.book, &text[..n], lengths, random.next()).refusal;
+            let other = compare_resolve(some_resolving(&mut random), DAY, page, &case.book, &text[..n], lengths, random.next()).refusal;
             others.push(other);
             for day in NO_DAYS {
-                let answer = compare_resolve(day, page, &case.book, &text[..n], lengths, random.next());
+                let answer = compare_resolve(some_resolving(&mut random), day, page, &case.book, &text[..n], lengths, random.next());
                 let due = RawResolving { refusal: 16, number: 0, reads: 0 };
                 assert_eq!(answer, due, "day {day}, which meets {other} too, page {page}, {:?} in {n} letters, {lengths:?}", case.read);
             }
@@ -184,28 +190,29 @@ fn unknown_pages_between_scratch_and_copy() {
     for (kind, n, lengths, other) in calls {
         let case = cases().into_iter().find(|case| (case.read, case.fault) == kind).expect("there is a book of this kind");
         for page in PAGES {
-            let refusal = compare_resolve(DAY, page, &case.book, &text[..n], lengths, random.next()).refusal;
+            let refusal = compare_resolve(some_resolving(&mut random), DAY, page, &case.book, &text[..n], lengths, random.next()).refusal;
             assert_eq!(refusal, other, "page {page}, {kind:?} in {n} letters, {lengths:?}");
         }
         let due = RawResolving { refusal: if [4, 5].contains(&other) { other } else { 14 }, number: 0, reads: 0 };
         for page in unknown_pages() {
-            let answer = compare_resolve(DAY, page, &case.book, &text[..n], lengths, random.next());
+            let answer = compare_resolve(some_resolving(&mut random), DAY, page, &case.book, &text[..n], lengths, random.next());
             assert_eq!(answer, due, "page {page}, which meets {other} too, {kind:?} in {n} letters, {lengths:?}");
         }
     }
     report("unknown_pages_between_scratch_and_copy", 14 * (2 + 305));
 }
 
-/// What a call by an unknown page, or on a number that is no day, leaves, without the reference.
+/// What a call by an unknown page, on a number that is no day, or by a role that may not resolve, leaves, without the reference.
 #[test]
-fn unknown_pages_and_days_write_nothing() {
-    let pages = unknown_pages().into_iter().map(|page| (DAY, page, 14));
-    for (day, page, refusal) in pages.chain(NO_DAYS.map(|day| (day, 1, 16))) {
+fn unknown_pages_days_and_roles_write_nothing() {
+    let pages = unknown_pages().into_iter().map(|page| (GUEST, DAY, page, 14));
+    let roles = unknown_roles().into_iter().chain([TRANSLATOR]).map(|role| (role, DAY, 1, 19));
+    for (role, day, page, refusal) in pages.chain(NO_DAYS.map(|day| (GUEST, day, 1, 16))).chain(roles) {
         let (mut copy, mut scratch, mut entries) = ([7; 20], [7; 65_600], [7; 17]);
         let mut memory = ResolverMemory { copy: &mut copy, scratch: &mut scratch, entries: &mut entries };
-        let answer = resolve_raw(day, page, MORE, b"tralala", &mut memory);
-        assert_eq!(answer, RawResolving { refusal, number: 0, reads: 0 }, "day {day}, page {page}");
-        assert_eq!((copy, scratch, entries), ([7; 20], [7; 65_600], [7; 17]), "day {day}, page {page}");
+        let answer = resolve_raw(role, day, page, MORE, b"tralala", &mut memory);
+        assert_eq!(answer, RawResolving { refusal, number: 0, reads: 0 }, "role {role}, day {day}, page {page}");
+        assert_eq!((copy, scratch, entries), ([7; 20], [7; 65_600], [7; 17]), "role {role}, day {day}, page {page}");
     }
 }
 
@@ -223,7 +230,7 @@ fn every_number_of_entries() {
             for entries in (0..3 * count + 3).rev().take(20).chain([0, count, 2 * count]) {
                 let lengths = Lengths { entries, ..Lengths::enough(text.len(), count) };
                 let page = PAGES[entries % 2];
-                let answer = compare_resolve(DAY, page, &book, &text, lengths, random.next());
+                let answer = compare_resolve(some_resolving(&mut random), DAY, page, &book, &text, lengths, random.next());
                 let expected = if entries < 3 * count { (11, 0, 0) } else { enough };
                 assert_eq!((answer.refusal, answer.number, answer.reads), expected, "page {page}, {count} cues, {entries} entries");
             }
@@ -245,8 +252,8 @@ fn refuse_in_song(page: Page, count: usize, fault: usize, other: Cue, refusal: R
     changed[fault] = other;
     let (mut copy, mut scratch, mut entries) = ([7; 20], [7; 65_600], [7; 17]);
     let mut memory = ResolverMemory { copy: &mut copy, scratch: &mut scratch, entries: &mut entries };
-    let answer = resolve(DAY, page, &book(&changed), SONG, &mut memory);
-    assert_eq!(answer, Err(ResolveError { refusal, cue: Some(fault) }), "{told}");
+    let answer = resolve(Role::Operator, DAY, page, &book(&changed), SONG, &mut memory);
+    assert_eq!(answer, Err(BookError { refusal, cue: Some(fault) }), "{told}");
     let written: Vec<u32> = SONG_CUES[..fault].iter().flat_map(|cue| cue.2).collect();
     assert_eq!(entries[..3 * fault], written, "{told}: the earlier cues' entries");
     assert_eq!(entries[3 * fault..], [7; 17][3 * fault..], "{told}: the entries from the refused cue on");
@@ -287,7 +294,8 @@ fn places_that_do_not_rise() {
     });
     for (place, cue) in at.iter().enumerate() {
         for page in Page::ALL {
-            let found = resolve_all(DAY, page, &cue.bytes(), SONG).map(|places| places.iter().map(|at| at.place as usize).collect::<Vec<_>>());
+            let found = resolve_all(Role::Operator, DAY, page, &cue.bytes(), SONG)
+                .map(|places| places.iter().map(|at| at.place as usize).collect::<Vec<_>>());
             assert_eq!(found, Ok(vec![place]), "{page:?}, {cue:?} alone");
         }
     }
@@ -299,10 +307,13 @@ fn slices_without_memory() {
     for page in Page::ALL {
         let (mut copy, mut scratch, mut entries) = (vec![], vec![7; RESOLVER_SCRATCH], vec![]);
         let mut memory = ResolverMemory { copy: &mut copy, scratch: &mut scratch, entries: &mut entries };
-        assert_eq!(resolve(DAY, page, &Vec::new(), &Vec::new(), &mut memory), Ok(Resolving { cues: 0, reads: 0 }));
+        assert_eq!(resolve(Role::Operator, DAY, page, &Vec::new(), &Vec::new(), &mut memory), Ok(Resolving { cues: 0, reads: 0 }));
         assert_eq!(*memory.scratch, [0; RESOLVER_SCRATCH]);
-        assert_eq!(resolve(DAY, page, MORE, &Vec::new(), &mut memory), Err(ResolveError { refusal: Refusal::ShortEntries, cue: None }));
+        assert_eq!(resolve(Role::Operator, DAY, page, MORE, &Vec::new(), &mut memory), Err(BookError { refusal: Refusal::ShortEntries, cue: None }));
         memory.scratch = &mut [];
-        assert_eq!(resolve(DAY, page, &Vec::new(), &Vec::new(), &mut memory), Err(ResolveError { refusal: Refusal::ShortScratch, cue: None }));
+        assert_eq!(
+            resolve(Role::Operator, DAY, page, &Vec::new(), &Vec::new(), &mut memory),
+            Err(BookError { refusal: Refusal::ShortScratch, cue: None })
+        );
     }
 }

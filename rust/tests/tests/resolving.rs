@@ -1,11 +1,12 @@
 //! The resolver over random texts, refrains, line ends, every letter, French and Finnish texts, texts folded beforehand, and the longest of everything.
 //! What a call leaves in its memory is compared in every call. Most tests go by one page and the other in turn.
 
-use libretto::{fold_text, resolve_all, CuePlace, Page};
+use libretto::{fold_text, resolve_all, CuePlace, Page, Role};
 use libretto_tests::books::{book, Cue, CUES, PHRASE};
-use libretto_tests::evenings::{all_playing, some_day};
+use libretto_tests::evenings::{all_resolved, some_day};
 use libretto_tests::groups::{resolve, resolve_backward, resolve_missing, resolve_rising, resolve_to, Outcome};
 use libretto_tests::pages::{letters, PAGES};
+use libretto_tests::roles::{GUEST, OPERATOR};
 use libretto_tests::verses::{in_any_case, missing, not_behind, place_of, places, rising, total, verse, word, ALPHABETS};
 use libretto_tests::words::{fibonacci, periodic};
 use libretto_tests::{report, Random};
@@ -213,8 +214,8 @@ fn french_and_finnish_texts() {
                 resolve_rising(page, &cues[..total], &text, &mut random);
                 resolve_missing(page, &cues, total, &text, &mut random);
                 let day = some_day(&mut random);
-                let playing = book(&all_playing(&cues[..total], day, &mut random));
-                let found = resolve_all(day.into(), Page::from_number(page).expect("the page is known"), &playing, &text);
+                let resolved = book(&all_resolved(GUEST, &cues[..total], day, &mut random));
+                let found = resolve_all(Role::Guest, day.into(), Page::from_number(page).expect("the page is known"), &resolved, &text);
                 assert_eq!(found, Ok(places), "page {page}, \"{}\"", form.escape_ascii());
             }
         }
@@ -239,8 +240,8 @@ fn texts_folded_beforehand() {
         let answers = [&text, &folded].map(|text| resolve(page.number(), &cues, text, &mut random));
         assert_eq!(answers[0], answers[1], "{page:?}, {cues:?} in \"{}\"", text.escape_ascii());
         let day = some_day(&mut random);
-        let book = book(&all_playing(&cues, day, &mut random));
-        let places = [&text, &folded].map(|text| resolve_all(day.into(), page, &book, text));
+        let book = book(&all_resolved(OPERATOR, &cues, day, &mut random));
+        let places = [&text, &folded].map(|text| resolve_all(Role::Operator, day.into(), page, &book, text));
         assert_eq!(places[0], places[1], "{page:?}, {cues:?} in \"{}\"", text.escape_ascii());
     }
     assert!(changed > 8000, "folding changed {changed} texts only");
@@ -251,7 +252,7 @@ fn texts_folded_beforehand() {
 fn places_lines_and_columns() {
     let places = |text: &[u8], phrase: &[u8], ordinal| {
         let by_page = |page| {
-            let found = resolve_all(9569, page, &book(&[Cue::new(phrase, ordinal, b"")]), text);
+            let found = resolve_all(Role::Operator, 9569, page, &book(&[Cue::new(phrase, ordinal, b"")]), text);
             found.expect("the cue stands in the text").iter().map(|&CuePlace { place, line, column }| (place, line, column)).next()
         };
         let [by_1, by_15] = Page::ALL.map(by_page);

@@ -1,11 +1,12 @@
-//! The programs for titling desks, as processes: `book` writes a cue book from a table, and `show` prints the show file of a day, once in C and once over
-//! the safe interface, which must print the same. Both go by either page.
+//! The programs for titling desks, as processes: `book` writes a cue book from a table, `retitle` gives some of its cues other titles, and `show` prints the
+//! show file of a day, for the operator or a guest, once in C and once over the safe interface, which must print the same. All go by either page.
 
-use libretto::date;
-use libretto_tests::books::{book, Cue, CUES, LAST_DAY};
+use libretto::{date, read_book, Role};
+use libretto_tests::books::{book, Cue, CUES, LAST_DAY, MARKS};
 use libretto_tests::evenings::Evening;
 use libretto_tests::pages::{letters, sign, PAGES};
 use libretto_tests::programs::{c_example, repository, rust_example};
+use libretto_tests::roles::GUEST;
 use libretto_tests::verses::{self, place_of, places};
 use libretto_tests::Random;
 use std::fs::{self, File};
@@ -16,9 +17,14 @@ use std::sync::LazyLock;
 
 const HEAD: &str = "cue  place   line  column  title\n";
 const REFRAINS: &str = "\ntotal  phrase, and below it its places\n";
+const GUEST_HEAD: &str = "place   line  column\n";
 
-const SHOW_USAGE: &str = "usage: show [--page 1|15] [--bytes] DAY TEXT BOOK\n";
+const SHOW_USAGE: &str = "usage: show [--page 1|15] [--bytes] [--guest] DAY TEXT BOOK\n";
 const BOOK_USAGE: &str = "usage: book [--page 1|15] [--bytes] < TABLE > BOOK\n";
+const RETITLE_USAGE: &str = "usage: retitle [--page 1|15] [--bytes] BOOK < TABLE > NEWBOOK\n";
+
+/// What is told of a field that is refused.
+const BAD_FIELD: &str = "a field's length is not allowed, the ordinal is not from 1 to 65,535, or the house mark is above 1";
 
 /// What is told of a cue that was looked for.
 const MISSING: &str = "the cue's occurrence does not exist";
@@ -36,6 +42,12 @@ fn written(day: u16) -> String {
     format!("{}-{:02}-{:02}", date.year, date.month, date.day)
 }
 
+/// The options for a page and a role.
+fn options_of(page: u32, role: u32) -> Vec<&'static str> {
+    let guest: &[&str] = if role == GUEST { &["--guest"] } else { &[] };
+    [guest, &of_page(page)].concat()
+}
+
 /// The options that name a page. Page 1 need not be named.
 fn of_page(page: u32) -> [&'static str; 2] {
     ["--page", if page == 1 { "1" } else { "15" }]
@@ -43,13 +55,15 @@ fn of_page(page: u32) -> [&'static str; 2] {
 
 struct Programs {
     book: PathBuf,
+    retitle: PathBuf,
     shows: [PathBuf; 2],
 }
 
 static PROGRAMS: LazyLock<Programs> = LazyLock::new(|| {
     let folder = Path::new(env!("CARGO_TARGET_TMPDIR"));
     let target = folder.parent().expect("cargo's folder for tests lies in its target folder");
-    Programs { book: c_example("book", folder), shows: [c_example("show", folder), rust_example("show", target)] }
+    let [book, retitle, show] = ["book", "retitle", "show"].map(|name| c_example(name, folder));
+    Programs { book, retitle, shows: [show, rust_example("show", target)] }
 });
 
 /// What a program leaves.
@@ -103,11 +117,22 @@ impl Desk {
         Left { status: output.status.code(), out: output.stdout, errors: output.stderr }
     }
 
-    /// Makes a book of this table.
-    fn book(&self, arguments: &[&str], table: &[u8]) -> Left {
+    /// Runs a program that takes a table.
+    fn run_on_table(&self, program: &Path, arguments: &[&str], table: &[u8]) -> Left {
         self.write("table", table);
         let table = File::open(self.0.join("table")).expect("the table opens");
-        self.run(&PROGRAMS.book, arguments, table.into(), Stdio::piped())
+        self.run(program, arguments, table.into(), Stdio::piped())
+    }
+
+    /// Makes a book of this table.
+    fn book(&self, arguments: &[&str], table: &[u8]) -> Left {
+        self.run_on_table(&PROGRAMS.book, arguments, table)
+    }
+
+    /// Gives this book the titles of this table.
+    fn retitle(&self, options: &[&str], book: &[u8], table: &[u8]) -> Left {
+        self.write("book", book);
+        self.run_on_table(&PROGRAMS.retitle, &[options, &["book"]].concat(), table)
     }
 
     /// Runs both show programs, which must leave the same.
@@ -175,6 +200,16 @@ fn line_and_column(text: &[u8], place: usize) -> (usize, usize) {
     let before = before.replace("\r\n", "\n");
     let lines: Vec<&str> = before.split(['\n', '\r']).collect();
     (lines.len(), lines[lines.len() - 1].chars().count() + 1)
+}
+
+/// The show file of a guest, who has these cues, which stand in the text.
+fn guest_file<'a>(page: u32, text: &[u8], cues: impl IntoIterator<Item = &'a Cue>) -> String {
+    let row = |cue| {
+        let place = place_of(page, cue, text).expect("the cue stands in the text");
+        let (line, column) = line_and_column(text, place);
+        format!("{place:5}  {line:5}  {column:6}\n")
+    };
+    GUEST_HEAD.to_string() + &cues.into_iter().map(row).collect::<String>()
 }
 
 /// The show file of cues that all play and stand in the text, by brute force.
@@ -322,21 +357,26 @@ fn random_verses() {
         let count = random.between(0, 12.min(length));
         let cues = verses::rising(page, &text, count, 5, &mut random);
         let evening = Evening::any(&cues, &mut random);
-        let playing: Vec<(usize, &Cue)> = evening.playing.iter().map(|&index| (index, &evening.cues[index])).collect();
-        let left = desk.show_on(&of_page(page), &written(evening.day), &text, &evening.book());
-        left.is(0, show_file_of(page, &text, &playing).as_bytes(), "");
+        let resolved: Vec<(usize, &Cue)> = evening.resolved.iter().map(|&index| (index, &evening.cues[index])).collect();
+        let show = |evening: &Evening| desk.show_on(&options_of(page, evening.role), &written(evening.day), &text, &evening.book());
+        let for_guest = guest_file(page, &text, &cues);
+        let due = if evening.role == GUEST { for_guest } else { show_file_of(page, &text, &resolved) };
+        show(&evening).is(0, due.as_bytes(), "");
 
-        // One more cue, which is at fault and has others around it that do not play.
+        // One more cue, which is at fault and has others around it that are passed over.
         let with = |cue: &Cue, random: &mut Random| Evening::any(&[&cues[..], slice::from_ref(cue)].concat(), random);
-        let refused = |evening: &Evening| desk.show_on(&of_page(page), &written(evening.day), &text, &evening.book());
-        let told = |evening: &Evening, cue: &Cue, why: &str| {
-            let index = evening.playing[count];
-            format!("book: cue {index}: {why}: ordinal {} of \"{}\"", cue.ordinal, shown(page, &cue.phrase))
+        // A guest is told the number among the open cues, and no more.
+        let told = |evening: &Evening, cue: &Cue, why: &str, more: String| {
+            let number = evening.number(count);
+            match evening.role {
+                GUEST => format!("book: open cue {number}: {why}\n"),
+                _ => format!("book: cue {number}: {why}: ordinal {} of \"{}\"{more}\n", cue.ordinal, shown(page, &cue.phrase)),
+            }
         };
         let missing = verses::missing(page, alphabet, &text, &mut random);
         let total = verses::total(page, &missing.phrase, &text);
         let evening = with(&missing, &mut random);
-        refused(&evening).is_refusal(&format!("{}, total {total}\n", told(&evening, &missing, MISSING)));
+        show(&evening).is_refusal(&told(&evening, &missing, MISSING, format!(", total {total}")));
 
         let Some(before) = cues.last().and_then(|last| place_of(page, last, &text)) else {
             continue;
@@ -345,11 +385,9 @@ fn random_verses() {
         let at = place_of(page, &backward, &text).expect("the cue stands in the text");
         let [(line, column), (line_before, column_before)] = [at, before].map(|place| line_and_column(&text, place));
         let evening = with(&backward, &mut random);
-        refused(&evening).is_refusal(&format!(
-            "{} is at line {line}, column {column}, cue {} at line {line_before}, column {column_before}\n",
-            told(&evening, &backward, NOT_FORWARD),
-            evening.playing[count - 1]
-        ));
+        let before = evening.resolved[count - 1];
+        let more = format!(" is at line {line}, column {column}, cue {before} at line {line_before}, column {column_before}");
+        show(&evening).is_refusal(&told(&evening, &backward, NOT_FORWARD, more));
     }
 }
 
@@ -387,6 +425,8 @@ fn nothing_to_show() {
     let desk = Desk::new("nothing");
     let no_cues = [HEAD, REFRAINS].concat();
     desk.show_of(b"", b"").is(0, no_cues.as_bytes(), "");
+    desk.show_by(&["--guest"], b"", b"").is(0, GUEST_HEAD.as_bytes(), "");
+    desk.show_by(&["--guest"], b"la", &book(&[Cue::new(b"so", 1, b"").marked(1)])).is(0, GUEST_HEAD.as_bytes(), "");
     desk.show_of(b"la la", b"").is(0, no_cues.as_bytes(), "");
     let missing = "book: cue 0: the cue's occurrence does not exist: ordinal 1 of \"la\", total 0\n";
     desk.show_of(b"", &book(&[Cue::new(b"la", 1, b"")])).is_refusal(missing);
@@ -406,6 +446,9 @@ fn limits() {
     desk.show_of(&text, &book(&longest)).is_refusal("text: the text has more than 32,768 bytes\n");
     // The book is read before the text is looked at.
     desk.show_of(&text, b"\x01").is_refusal("book: cue 0: the book ends inside a field\n");
+    // A guest's book is read by the resolver, which looks at the text before.
+    desk.show_by(&["--guest"], &text, b"\x01").is_refusal("text: the text has more than 32,768 bytes\n");
+    desk.show_by(&["--guest"], &text[..32_768], &book(&longest)).is(0, guest_file(1, &text[..32_768], &longest).as_bytes(), "");
 
     let numbers: Vec<String> = (0..=CUES).map(|number| format!("#{number:03}")).collect();
     let cues: Vec<Cue> = numbers.iter().map(|number| Cue::new(number.as_bytes(), 1, b"")).collect();
@@ -417,9 +460,11 @@ fn limits() {
     let longest: Vec<Cue> = text.windows(1024).map(|phrase| Cue::new(phrase, 1, &[b'T'; 200])).collect();
     desk.show_of(&text, &book(&longest)).is(0, show_file(1, &text, &longest).as_bytes(), "");
     desk.show_of(&text, &[&book(&longest)[..], &[1]].concat()).is_refusal(too_many);
-    let dated: Vec<Cue> = longest.into_iter().map(|cue| cue.on(0, LAST_DAY)).collect();
-    desk.show_of(&text, &book(&dated)).is(0, show_file(1, &text, &dated).as_bytes(), "");
-    desk.show_of(&text, &[&book(&dated)[..], &[4]].concat()).is_refusal(too_many);
+    let marked: Vec<Cue> = longest.into_iter().map(|cue| cue.on(0, LAST_DAY).marked(1)).collect();
+    desk.show_of(&text, &book(&marked)).is(0, show_file(1, &text, &marked).as_bytes(), "");
+    desk.show_of(&text, &[&book(&marked)[..], &[5]].concat()).is_refusal(too_many);
+    desk.retitle(&[], &[&book(&marked)[..], &[5]].concat(), b"").is_refusal(too_many);
+    desk.retitle(&[], &book(&marked), b"").is(0, &book(&marked), "");
 
     let line = |number: &String| format!("1\t{number}\t\n");
     desk.book(&[], numbers[..CUES].iter().map(line).collect::<String>().as_bytes()).is(0, &book(&cues[..CUES]), "");
@@ -427,7 +472,9 @@ fn limits() {
     let longest = format!("65535\t{}\t{}", "\\xE0".repeat(1024), "\\x5C".repeat(200));
     let cue = Cue::new(&[0xe0; 1024], 65_535, &[b'\\'; 200]);
     desk.book(&[], format!("{longest}\r\n").as_bytes()).is(0, &book(slice::from_ref(&cue)), "");
-    desk.book(&[], format!("{longest}\t2000-01-01\t2099-12-31\r\n").as_bytes()).is(0, &book(&[cue.on(0, LAST_DAY)]), "");
+    let dated = cue.on(0, LAST_DAY);
+    desk.book(&[], format!("{longest}\t2000-01-01\t2099-12-31\r\n").as_bytes()).is(0, &book(slice::from_ref(&dated)), "");
+    desk.book(&[], format!("{longest}\t2000-01-01\t2099-12-31\thouse\r\n").as_bytes()).is(0, &book(&[dated.marked(1)]), "");
 }
 
 #[test]
@@ -440,19 +487,26 @@ fn damaged_books() {
         (good[..54 + 13].to_vec(), "cue 1: the book ends inside a field"),
         (damaged(0, 2), "cue 0: a field's tag is not the one due"),
         (damaged(54, 3), "cue 1: a field's tag is not the one due"),
-        (damaged(18, 0), "cue 0: a field's length is not allowed, or the ordinal is not from 1 to 65,535"),
-        (damaged(16, 3), "cue 0: a field's length is not allowed, or the ordinal is not from 1 to 65,535"),
+        (damaged(18, 0), &format!("cue 0: {BAD_FIELD}")),
+        (damaged(16, 3), &format!("cue 0: {BAD_FIELD}")),
         ([&good[..], &[0]].concat(), "cue 18: the book ends inside a field"),
         ([&good[..], &[4]].concat(), "cue 17: the book ends inside a field"),
-        ([&good[..54], b"\x04\x00\x05"].concat(), "cue 0: a field's length is not allowed, or the ordinal is not from 1 to 65,535"),
+        ([&good[..54], b"\x04\x00\x05"].concat(), &format!("cue 0: {BAD_FIELD}")),
+        ([&good[..54], b"\x05\x00\x01\x02"].concat(), &format!("cue 0: {BAD_FIELD}")),
+        ([&good[..54], b"\x05\x00\x01"].concat(), "cue 0: the book ends inside a field"),
         ([&good[..54], b"\x04\x00\x04\x00\x00\x8e\xad"].concat(), &format!("cue 0: {BAD_DATE}")),
         ([&good[..54], b"\x04\x00\x04\x00\x01\x00\x00", &good[54..]].concat(), &format!("cue 0: {BAD_DATE}")),
     ];
     for (book, told) in cases {
-        desk.show_of(&text, &book).is_refusal(&format!("book: {told}\n"));
+        // A guest and a translator are told the same, also where the table has no title.
+        for left in
+            [desk.show_of(&text, &book), desk.show_by(&["--guest"], &text, &book), desk.retitle(&[], &book, b"0\tx"), desk.retitle(&[], &book, b"")]
+        {
+            left.is_refusal(&format!("book: {told}\n"));
+        }
     }
     for end in (1..good.len()).step_by(13) {
-        match libretto::read_book(&good[..end]) {
+        match read_book(Role::Operator, &good[..end]) {
             Ok(_) => assert_eq!(desk.show_of(&text, &good[..end]).status, Some(0)),
             Err(refused) => desk.show_of(&text, &good[..end]).is_refusal(&format!("book: {refused}\n")),
         }
@@ -463,7 +517,9 @@ fn damaged_books() {
 fn refused_tables() {
     let long_title = format!("1\tla\t{}", "b".repeat(201));
     let [long_phrase, long_line] = [1025, 5000].map(|letters| format!("1\t{}\tNo", "a".repeat(letters)));
-    let not_a_line = "the line is not ordinal, TAB, phrase, TAB, title, with or without TAB, first day, TAB, last day";
+    let not_a_line =
+        "the line is not ordinal, TAB, phrase, TAB, title, with or without TAB, first day, TAB, last day, and these with or without TAB, house";
+    let not_house = "the last column is neither empty nor house";
     let [not_written, not_a_date] = ["a day is not written as year-month-day, as in 2026-03-14", "a date is not in the calendar's 2000 to 2099"];
     let bad_field = "the ordinal is not from 1 to 65,535, or the title has more than 200 letters";
     let no_letter = "a letter is not in ISO 8859-1, or the table is not in UTF-8";
@@ -488,7 +544,14 @@ fn refused_tables() {
         ("1\tla\t\\xg4", no_byte),
         ("1\tla\t\\x4g", no_byte),
         ("1\tla\tNo\t2026-03-14", not_a_line),
-        ("1\tla\tNo\t2026-03-14\t2026-03-15\t", not_a_line),
+        ("1\tla\tNo\thouse", not_a_line),
+        ("1\tla\tNo\t2026-03-14\t2026-03-15\thouse\t", not_a_line),
+        ("1\tla\tNo\t2026-03-14\t2026-03-15\t1", not_house),
+        ("1\tla\tNo\t\t\tHouse", not_house),
+        ("1\tla\tNo\t\t\thouse ", not_house),
+        ("1\tla\tNo\t\t\thous", not_house),
+        ("1\tla\tNo\t\t\thouses", not_house),
+        ("1\tla\tNo\t\thouse", not_written),
         ("1\tla\tNo\t2026-03-14\t", not_written),
         ("1\tla\tNo\t\t2026-03-14", not_written),
         ("1\tla\tNo\t2026-03\t2026-03-15", not_written),
@@ -540,6 +603,112 @@ fn tables_with_days() {
     desk.book(&["--bytes", "--page", "15"], table.as_bytes()).is(0, &book(&cases.map(|(_, days)| cue(days))), "");
     // An empty title before the days.
     desk.book(&[], b"1\tla\t\t2000-01-02\t2000-01-03").is(0, &book(&[Cue::new(b"la", 1, b"").on(1, 2)]), "");
+}
+
+/// Lines with a column for the house, with days and without, and books of which a guest is shown the open cues.
+#[test]
+fn house_cues() {
+    let desk = Desk::new("house");
+    let table =
+        b"1\tla\tOne\n2\tla\tTwo\t\t\thouse\n3\tla\tThree\t2026-03-14\t2026-03-14\thouse\r\n4\tla\tFour\t2026-03-14\t2026-03-14\t\n5\tla\tFive\t\t\t";
+    let cue = |ordinal, title: &str| Cue::new(b"la", ordinal, title.as_bytes());
+    let today = |cue: Cue| cue.on(9569, 9569);
+    let cues = [cue(1, "One"), cue(2, "Two").marked(1), today(cue(3, "Three").marked(1)), today(cue(4, "Four")), cue(5, "Five")];
+    let made = desk.book(&[], table);
+    made.is(0, &book(&cues), "");
+    let text = b"la LA la\nla la";
+    desk.show_of(text, &made.out).is(0, show_file(1, text, &cues).as_bytes(), "");
+    let open = [0, 3, 4].map(|index: usize| &cues[index]);
+    for options in [&["--guest"][..], &["--guest", "--bytes"], &["--page", "15", "--guest"], &["--bytes", "--guest", "--page", "1"]] {
+        desk.show_by(options, text, &made.out).is(0, guest_file(1, text, open).as_bytes(), "");
+        desk.show_on(options, "2026-03-15", text, &made.out).is(0, guest_file(1, text, [&cues[0], &cues[4]]).as_bytes(), "");
+    }
+    // A guest is told the number among the open cues, whether they play or not.
+    for (options, told) in
+        [(&["--guest"][..], format!("open cue 2: {MISSING}\n")), (&[], format!("cue 4: {MISSING}: ordinal 5 of \"la\", total 4\n"))]
+    {
+        desk.show_on(options, "2026-03-15", b"la LA la\nla", &made.out).is_refusal(&format!("book: {told}"));
+    }
+}
+
+/// Titles of the aria in another language: each line's cue has the new title, and all else of the book stays.
+#[test]
+fn titles_of_the_aria() {
+    let desk = Desk::new("titles");
+    let (text, book) = (example("aria.txt"), example("aria.book"));
+    let table = "# German\n0\tSchon sinkt der Abend über das Meer,\n\n17\tEnde.\r\n6\t\n4\tno\n4\tKomm, mein Boot, komm zurück,\n";
+    let left = desk.retitle(&[], &book, table.as_bytes());
+    let aria = String::from_utf8(example("aria.show")).expect("the file is in UTF-8");
+    let rows: Vec<String> = aria
+        .lines()
+        .map(|row| match row.get(..3) {
+            Some("  0") => row.replace("Déjà le soir descend sur la mer,", "Schon sinkt der Abend über das Meer,"),
+            Some("  4") => row.replace("Reviens, reviens, ma barque,", "Komm, mein Boot, komm zurück,"),
+            Some("  6") => row.replace("  La la la la, sur le chemin", ""),
+            Some(" 17") => format!("{row}  Ende."),
+            _ => row.to_string(),
+        })
+        .collect();
+    desk.show_of(&text, &left.out).is(0, format!("{}\n", rows.join("\n")).as_bytes(), "");
+    // In the page's own bytes, and by the other page, which has all of these letters at the same bytes.
+    desk.retitle(&["--bytes"], &book, &latin1(table.as_bytes())).is(0, &left.out, "");
+    desk.retitle(&["--page", "15"], &book, table.as_bytes()).is(0, &left.out, "");
+    desk.retitle(&[], &book, b"").is(0, &book, "");
+}
+
+/// Random books and titles, with every mark: what comes out is the book with these titles.
+#[test]
+fn random_titles() {
+    let desk = Desk::new("random-titles");
+    let mut random = Random::new(73);
+    for round in 0..40 {
+        let page = PAGES[round % 2];
+        let mut cues: Vec<Cue> = (0..random.between(1, 40)).map(|_| Cue::random(&mut random)).collect();
+        let old = book(&cues);
+        let mut table = String::new();
+        for _ in 0..random.below(30) {
+            let (index, letters) = (random.below(cues.len()), random.between(0, 200));
+            cues[index].title = random.word(256, letters);
+            table += &format!("{index}\t{}\n", shown(page, &cues[index].title));
+        }
+        desk.retitle(&of_page(page), &old, table.as_bytes()).is(0, &book(&cues), "");
+    }
+}
+
+/// Lines that are refused: each is told, and no book is written.
+#[test]
+fn refused_titles() {
+    let desk = Desk::new("refused-titles");
+    let cues = MARKS.map(|mark| Cue { mark, ..Cue::new(b"la", 1, b"No") });
+    let not_a_line = "the line is not a cue's index, TAB, title";
+    let [not_a_number, no_cue] = ["the cue's index is not a number", "the book has no cue of this index"];
+    let [long, too_long] = [201, 5000].map(|letters| format!("0\t{}", "t".repeat(letters)));
+    let cases = [
+        ("0", not_a_line),
+        ("0\tx\t", not_a_line),
+        ("\tx", not_a_number),
+        ("-1\tx", not_a_number),
+        ("0x1\tx", not_a_number),
+        (" 1\tx", not_a_number),
+        ("3\tx", no_cue),
+        ("999\tx", no_cue),
+        ("65536\tx", no_cue),
+        ("4294967296\tx", no_cue),
+        ("99999999999999999999\t", no_cue),
+        (&long, "the title has more than 200 letters"),
+        (&too_long, "the line is too long"),
+        ("0\tc\u{153}ur", "a letter is not in ISO 8859-1, or the table is not in UTF-8"),
+        ("0\t\\x4", "a backslash begins none of \\n, \\xNN and \\\\"),
+    ];
+    let table: String = cases.iter().map(|(line, _)| format!("{line}\n1\tYes\r\n")).collect();
+    let told: String = cases.iter().enumerate().map(|(index, (_, told))| format!("line {}: {told}\n", 2 * index + 1)).collect();
+    desk.retitle(&[], &book(&cues), table.as_bytes()).is_refusal(&told);
+    desk.retitle(&[], b"", b"0\tx").is_refusal(&format!("line 1: {no_cue}\n"));
+    desk.retitle(&[], &book(&cues), b"2\tYes").is(
+        0,
+        &book(&[cues[0].clone(), cues[1].clone(), Cue { title: b"Yes".to_vec(), ..cues[2].clone() }]),
+        "",
+    );
 }
 
 /// Days that are told to `show`: those that the calendar has, those that it does not have, and what is no day at all.
@@ -678,6 +847,11 @@ fn files_that_fail() {
     desk.show_into(&[TODAY, "text", "book"], full).is_failure("standard output: No space left on device\n");
     let folder = || File::open(&desk.0).expect("the folder opens").into();
     desk.run(&PROGRAMS.book, &[], folder(), Stdio::piped()).is_failure("standard input: Is a directory\n");
+    desk.run(&PROGRAMS.retitle, &["book"], folder(), Stdio::piped()).is_failure("standard input: Is a directory\n");
+    desk.run(&PROGRAMS.retitle, &["absent"], Stdio::null(), Stdio::piped()).is_failure("absent: No such file or directory\n");
+    desk.write("book", &book(&[Cue::new(b"la", 1, b"")]));
+    desk.run(&PROGRAMS.retitle, &["book"], Stdio::null(), full()).is_failure("standard output: No space left on device\n");
+    desk.show_into(&["--guest", TODAY, "text", "book"], full).is_failure("standard output: No space left on device\n");
 }
 
 /// Options that are wrong, come twice, or stand behind the files, and another number of files than there should be.
@@ -706,13 +880,21 @@ fn wrong_calls() {
         ["0", "2", "9", "14", "16", "151", "115", "-1", "+1", "01", "015", "1 ", " 15", "15.0", "0x1", "1e0", "", "latin1", "--bytes", "4294967297"];
     let wrong_pages = pages.iter().map(|page| vec!["--page", page]);
     let twice = [vec!["--bytes", "--bytes"], vec!["--page", "15", "--page", "15"], vec!["--page", "1", "--bytes", "--page", "1"]];
+    let guests = [vec!["--guest", "--guest"], vec!["--guest", "--page", "1", "--guest"], vec!["--guests"], vec!["--guest=1"]];
     let unknown = [vec!["--latin1"], vec!["--page=15"], vec!["--"], vec!["--bytes", "--help"], vec!["--pages", "15"]];
-    for options in wrong_pages.chain(twice).chain(unknown) {
+    for options in wrong_pages.chain(twice).chain(guests).chain(unknown) {
         for files in [&[TODAY, "text", "book"][..], &[]] {
             desk.show(&[&options, files].concat()).is_failure(SHOW_USAGE);
         }
         desk.book(&options, b"").is_failure(BOOK_USAGE);
+        desk.retitle(&options, b"", b"").is_failure(RETITLE_USAGE);
     }
+    // The other two have no guest's form, and `retitle` takes one book.
+    desk.book(&["--guest"], b"").is_failure(BOOK_USAGE);
+    for arguments in [&["--guest"][..], &["book"], &["--bytes", "book"]] {
+        desk.retitle(arguments, b"", b"").is_failure(RETITLE_USAGE);
+    }
+    desk.run_on_table(&PROGRAMS.retitle, &[], b"").is_failure(RETITLE_USAGE);
     desk.book(&["--page"], b"").is_failure(BOOK_USAGE);
     desk.show(&["--page"]).is_failure(SHOW_USAGE);
     desk.show(&[TODAY, "text", "book", "--page"]).is_failure(SHOW_USAGE);
