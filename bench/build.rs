@@ -14,7 +14,7 @@ const BUILDS: [(&str, &[&str]); 3] = [
 ];
 
 /// The files of `c/` and the function that each defines.
-const TWINS: [(&str, &str); 14] = [
+const TWINS: [(&str, &str); 15] = [
     ("naive", "twin_naive"),
     ("kmp", "twin_kmp"),
     ("horspool", "twin_horspool"),
@@ -27,6 +27,7 @@ const TWINS: [(&str, &str); 14] = [
     ("memmem", "twin_memmem"),
     ("late_cuts", "twin_relist"),
     ("cue_book", "twin_read_book"),
+    ("retitle", "twin_retitle"),
     ("automaton", "twin_resolve"),
     ("fold", "twin_fold"),
 ];

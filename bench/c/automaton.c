@@ -1,4 +1,4 @@
-/* Resolving the cues of a book that play on a day, in groups of as many one after another as fit into 64 cues and 4,096 phrase bytes: one automaton over
+/* Resolving the cues of a book that a role has on a day, in groups of as many one after another as fit into 64 cues and 4,096 phrase bytes: one automaton over
  * a group's folded phrases reads each letter of the folded text once.
  *
  * The automaton lies in the scratch. First come its states, eight entries each, as struct state has them; then a class for each of the 256 letters,
@@ -30,17 +30,17 @@ struct automaton {
     size_t states_len, width, rows_len; /* width is the entries of a row; the states below rows_len have one */
 };
 
-/* The cues of a group, each with its index in the book, its phrase and its length, the occurrences still to come, and its place. */
+/* The cues of a group, each with the number by which it is named, its phrase and its length, the occurrences still to come, and its place. */
 struct group {
     size_t len;
     const uint8_t *phrases[GROUP_CUES];
-    uint32_t indices[GROUP_CUES], lengths[GROUP_CUES], left[GROUP_CUES], places[GROUP_CUES];
+    uint32_t numbers[GROUP_CUES], lengths[GROUP_CUES], left[GROUP_CUES], places[GROUP_CUES];
 };
 
-/* How far a book has been taken: the place and the index of the next cue. */
+/* How far a book has been taken: the place and the number of the next cue. */
 struct taken {
     size_t place;
-    uint32_t index;
+    uint32_t number;
 };
 
 /* A place with its line, and where that line starts; and the least place that the next cue may have, since the cues run forward. */
@@ -63,9 +63,9 @@ static inline void join(struct state *state, uint64_t bits)
     memcpy(state->ended, &bits, sizeof bits);
 }
 
-/* Takes the playing cues of the next group from a book that has been tested, and passes over the others up to the first playing one of the group
+/* Takes the resolved cues of the next group from a book that has been tested, and passes over the others up to the first resolved one of the group
  * behind. */
-static void take_group(struct group *group, uint32_t day, const uint8_t *book, size_t book_len, struct taken *taken)
+static void take_group(struct group *group, uint32_t role, uint32_t day, const uint8_t *book, size_t book_len, struct taken *taken)
 {
     size_t bytes = 0;
 
@@ -75,11 +75,12 @@ static void take_group(struct group *group, uint32_t day, const uint8_t *book, s
         size_t length = twin_number(phrase - 2), k = group->len;
         const uint8_t *ordinal = phrase + length + 3, *title = ordinal + 5;
         size_t end = (size_t)(title - book) + twin_number(title - 2);
-        if (twin_plays(book, book_len, &end, day)) {
+        struct twin_choice choice = twin_choose(book, book_len, &end, role, day);
+        if (choice.resolved) {
             bytes += length;
             if (k == GROUP_CUES || bytes > GROUP_BYTES)
                 return;
-            group->indices[k] = taken->index;
+            group->numbers[k] = taken->number;
             group->phrases[k] = phrase;
             group->lengths[k] = (uint32_t)length;
             group->left[k] = twin_number(ordinal);
@@ -87,21 +88,21 @@ static void take_group(struct group *group, uint32_t day, const uint8_t *book, s
             group->len++;
         }
         taken->place = end;
-        taken->index++;
+        taken->number += choice.counted;
     }
 }
 
-/* The number of cues that play, in a book that has been tested. */
-static uint32_t count_playing(uint32_t day, const uint8_t *book, size_t book_len)
+/* The number of cues that are resolved, in a book that has been tested. */
+static uint32_t count_resolved(uint32_t role, uint32_t day, const uint8_t *book, size_t book_len)
 {
-    uint32_t playing = 0;
+    uint32_t resolved = 0;
 
     for (size_t place = 0; place < book_len;) {
         for (int field = 0; field < 3; field++)
             place += 3 + twin_number(book + place + 1);
-        playing += (uint32_t)twin_plays(book, book_len, &place, day);
+        resolved += twin_choose(book, book_len, &place, role, day).resolved;
     }
-    return playing;
+    return resolved;
 }
 
 /* The child of a state by this letter; it is made if there is none, and holds its parent as its fail link until that is known. */
@@ -260,15 +261,15 @@ static void move_on(struct position *at, const uint8_t *text, size_t place)
 }
 
 /* Writes the entries of a group's cues up to the first that has no place, or one that is not above the last one's: 0 and how many were written, or the
- * refusal and the cue's index. */
+ * refusal and the cue's number. */
 static struct twin_answer write_entries(const struct group *group, const uint8_t *text, struct position *at, uint32_t *restrict entries)
 {
     for (uint32_t k = 0; k < group->len; k++) {
         uint32_t place = group->places[k];
         if (place == NOWHERE)
-            return (struct twin_answer){NO_OCCURRENCE, group->indices[k]};
+            return (struct twin_answer){NO_OCCURRENCE, group->numbers[k]};
         if (place < at->least)
-            return (struct twin_answer){NOT_FORWARD, group->indices[k]};
+            return (struct twin_answer){NOT_FORWARD, group->numbers[k]};
         move_on(at, text, place);
         entries[3 * k] = place;
         entries[3 * k + 1] = at->line;
@@ -287,7 +288,7 @@ static void fold_text(uint32_t page, const uint8_t *restrict text, size_t n, uin
             copy[i] = twin_page_15[text[i]];
 }
 
-struct twin_resolving twin_resolve(uint32_t day, uint32_t page, const uint8_t *book, size_t book_len, const uint8_t *text, size_t n,
+struct twin_resolving twin_resolve(uint32_t role, uint32_t day, uint32_t page, const uint8_t *book, size_t book_len, const uint8_t *text, size_t n,
                                    uint8_t *restrict copy, uint16_t *restrict scratch, size_t scratch_len, uint32_t *restrict entries,
                                    size_t entries_len)
 {
@@ -299,13 +300,13 @@ struct twin_resolving twin_resolve(uint32_t day, uint32_t page, const uint8_t *b
 
     if (read.refusal != 0)
         return (struct twin_resolving){read.refusal, read.number, 0};
-    uint32_t playing = count_playing(day, book, book_len);
-    if (entries_len < (size_t)3 * playing)
+    uint32_t all = count_resolved(role, day, book, book_len);
+    if (entries_len < (size_t)3 * all)
         return (struct twin_resolving){SHORT_ENTRIES, 0, 0};
     fold_text(page, text, n, copy);
     memset(scratch, 0, scratch_len * sizeof *scratch);
-    while (resolved < playing) {
-        take_group(&group, day, book, book_len, &taken);
+    while (resolved < all) {
+        take_group(&group, role, day, book, book_len, &taken);
         find_group(&group, page == 1 ? twin_page_1 : twin_page_15, copy, n, scratch, scratch_len);
         reads += (uint32_t)n;
         struct twin_answer written = write_entries(&group, text, &at, entries + 3 * resolved);

@@ -5,7 +5,7 @@
 #include "twins.h"
 
 enum { TWIN_CUT_FIELD = 7, TWIN_WRONG_TAG = 8, TWIN_BAD_FIELD = 9, TWIN_LONG_BOOK = 10, TWIN_BAD_DATE = 16 };
-enum { TWIN_CUES_MAX = 999, TWIN_DAY_MAX = 36524, TWIN_DATES = 4 };
+enum { TWIN_CUES_MAX = 999, TWIN_DAY_MAX = 36524, TWIN_DATES = 4, TWIN_HOUSE = 5 };
 
 /* The number that two bytes of a book write, high byte first. */
 static inline uint32_t twin_number(const uint8_t *bytes)
@@ -32,6 +32,8 @@ static inline uint32_t twin_read_field(const uint8_t *book, size_t book_len, siz
         return TWIN_BAD_FIELD;
     if (tag == TWIN_DATES && (twin_number(field + 5) > TWIN_DAY_MAX || twin_number(field + 3) > twin_number(field + 5)))
         return TWIN_BAD_DATE;
+    if (tag == TWIN_HOUSE && field[3] > 1)
+        return TWIN_BAD_FIELD;
     *place += 3 + length;
     return 0;
 }
@@ -45,18 +47,33 @@ static inline uint32_t twin_read_cue(const uint8_t *book, size_t book_len, size_
         refusal = twin_read_field(book, book_len, place, 3, 0, 200);
     if (refusal == 0 && *place < book_len && book[*place] == TWIN_DATES)
         refusal = twin_read_field(book, book_len, place, TWIN_DATES, 4, 4);
+    if (refusal == 0 && *place < book_len && book[*place] == TWIN_HOUSE)
+        refusal = twin_read_field(book, book_len, place, TWIN_HOUSE, 1, 1);
     return refusal;
 }
 
-/* Whether a cue plays on this day, of which the place behind its title is given; moves that place behind its dates if it has them. */
-static inline int twin_plays(const uint8_t *book, size_t book_len, size_t *place, uint32_t day)
-{
-    const uint8_t *dates = book + *place;
+/* What a cue is to a role on a day, each 0 or 1: whether its number counts it, which that of a guest does not if it is house only, and whether it is
+ * resolved, which it is if it plays and is counted. */
+struct twin_choice {
+    uint32_t counted, resolved;
+};
 
-    if (*place == book_len || dates[0] != TWIN_DATES)
-        return 1;
-    *place += 7;
-    return twin_number(dates + 3) <= day && day <= twin_number(dates + 5);
+/* What a cue is to a role on a day, of which the place behind its title is given; moves that place behind its dates and its mark if it has them. */
+static inline struct twin_choice twin_choose(const uint8_t *book, size_t book_len, size_t *place, uint32_t role, uint32_t day)
+{
+    struct twin_choice choice = {1, 1};
+
+    if (*place < book_len && book[*place] == TWIN_DATES) {
+        const uint8_t *days = book + *place + 3;
+        choice.resolved = twin_number(days) <= day && day <= twin_number(days + 2);
+        *place += 7;
+    }
+    if (*place < book_len && book[*place] == TWIN_HOUSE) {
+        if (role == TWIN_GUEST && book[*place + 3] == 1)
+            choice = (struct twin_choice){0, 0};
+        *place += 4;
+    }
+    return choice;
 }
 
 /* Tests the whole book. */

@@ -1,9 +1,10 @@
-/* The library's eight engines, its late cuts, its book reader, its resolver and its folding by page 15 written again in plain C, from the steps of
- * documents 01 and 02, to measure the library against.
+/* The library's eight engines, its late cuts, its book reader, its writer of other titles, its resolver and its folding by page 15 written again in plain
+ * C, from the steps of documents 01 and 02, to measure the library against.
  *
  * Each twin takes the memory that the library is lent and leaves it the same: its tables at the scratch's front, the first places in the list. What
  * the library refuses is not tested here: the phrase has 1 to 1,024 bytes, the text at most 32,768, the scratch is long enough, and nothing overlaps.
- * The book reader is the exception: its refusals are its work, and the resolver's from the book's own on; so is the test of a late cut's list.
+ * The book reader is the exception: its refusals are its work, and the resolver's and those of another title from the book's own on, but for a short
+ * buffer; so is the test of a late cut's list.
  */
 #ifndef TWINS_H
 #define TWINS_H
@@ -46,7 +47,7 @@ struct twin_moves_finding twin_fjs_moves(const uint8_t *phrase, size_t m, const 
 /* Every place of the phrase by glibc's memmem, called again one letter after each place; it counts no comparisons and gives the total. */
 uint32_t twin_memmem(const uint8_t *phrase, size_t m, const uint8_t *text, size_t n, uint32_t *restrict list, size_t list_len);
 
-/* A refusal or 0, and a number: of places, of cues, or the index of the refused cue. */
+/* A refusal or 0, and a number: of places, of cues, of bytes, or the index of the refused cue. */
 struct twin_answer {
     uint32_t refusal, number;
 };
@@ -57,14 +58,21 @@ struct twin_answer twin_relist(const uint8_t *phrase, size_t m, const uint8_t *t
 
 struct twin_answer twin_read_book(const uint8_t *book, size_t book_len);
 
-/* A refusal or 0, the number of playing cues or the index of the refused one, and the letters of the text read. */
+/* The book with another title for the cue of this index, in a buffer that is long enough: 0 and its bytes. */
+struct twin_answer twin_retitle(const uint8_t *book, size_t book_len, uint32_t cue, const uint8_t *title, size_t title_len,
+                                uint8_t *restrict buffer);
+
+/* The role of a guest; any other one is the operator's. */
+enum { TWIN_GUEST = 2 };
+
+/* A refusal or 0, the number of resolved cues or of the refused one, and the letters of the text read. */
 struct twin_resolving {
     uint32_t refusal, number, reads;
 };
 
-/* The places, lines and columns of the cues of a book that play on a day, by page 1 or 15, with a copy of at least n bytes and a scratch of at least
- * 65,535 entries. */
-struct twin_resolving twin_resolve(uint32_t day, uint32_t page, const uint8_t *book, size_t book_len, const uint8_t *text, size_t n,
+/* The places, lines and columns of the cues of a book that a role has on a day, by page 1 or 15, with a copy of at least n bytes and a scratch of at
+ * least 65,535 entries. */
+struct twin_resolving twin_resolve(uint32_t role, uint32_t day, uint32_t page, const uint8_t *book, size_t book_len, const uint8_t *text, size_t n,
                                    uint8_t *restrict copy, uint16_t *restrict scratch, size_t scratch_len, uint32_t *restrict entries,
                                    size_t entries_len);
 

@@ -7,7 +7,8 @@ use crate::random::Random;
 use crate::statistics::least;
 use crate::texts::{Family, Text};
 use crate::twins::{Build, BUILDS};
-use libretto::{find_raw, fold_text, read_book_raw, resolve_raw, write_cue, Days, Method, Page, ResolverMemory, CUES_MAX, CUE_MAX, TEXT_MAX};
+use libretto::{find_raw, fold_text, read_book_raw, resolve_raw, retitle_raw, write_cue};
+use libretto::{Days, Method, Page, ResolverMemory, Role, CUES_MAX, CUE_MAX, TEXT_MAX};
 use std::hint::black_box;
 
 /// The page that cues are resolved by: the verse is in ISO 8859-1.
@@ -19,6 +20,27 @@ const NEXT_DAY: u32 = DAY + 1;
 
 /// The days of every second cue.
 const DAYS: Days = Days { first: 9556, last: DAY };
+
+/// Of so many cues the last is house only.
+const HOUSE: usize = 3;
+
+/// A role and a day that a book is resolved for.
+#[derive(Clone, Copy, Debug)]
+struct Evening {
+    role: Role,
+    day: u32,
+}
+
+/// The evening on which all cues are resolved.
+const ALL: Evening = Evening { role: Role::Operator, day: DAY };
+
+/// Evenings on which all cues are resolved, and on which some are passed over, for their days, as house cues for a guest, or for both.
+const EVENINGS: [Evening; 4] =
+    [ALL, Evening { day: NEXT_DAY, ..ALL }, Evening { role: Role::Guest, day: DAY }, Evening { role: Role::Guest, day: NEXT_DAY }];
+
+/// The cue that is given another title where that is timed, in the middle of a book, and the title.
+const RETITLED: usize = CUES_MAX / 2;
+const TITLE: &[u8] = b"Reviens, reviens, ma barque, reviens avant le jour !";
 
 /// The text that the cues stand in, as it is and folded.
 pub struct Libretto {
@@ -46,8 +68,8 @@ impl Libretto {
     }
 }
 
-/// A book of 999 cues that stand in the text, evenly spread and rising, as the cues of a performance do. Every second one has days, so that the reading of
-/// these is in its times.
+/// A book of 999 cues that stand in the text, evenly spread and rising, as the cues of a performance do. Every second one has days, and every third a house
+/// mark, so that the reading of these is in its times.
 pub struct Book {
     /// The lengths of its phrases, in words.
     pub phrases: &'static str,
@@ -78,8 +100,9 @@ impl Book {
     fn push(&mut self, phrase: &[u8], ordinal: usize, title: &[u8]) {
         let mut cue = [0; CUE_MAX];
         let number = u32::try_from(ordinal).expect("an ordinal is at most the text's length");
-        let days = (self.ordinals.len() % 2 == 1).then_some(DAYS);
-        let length = write_cue(&mut cue, phrase, number, title, days).expect("the cue keeps the limits");
+        let index = self.ordinals.len();
+        let (days, house) = ((index % 2 == 1).then_some(DAYS), index % HOUSE == HOUSE - 1);
+        let length = write_cue(Role::Operator, &mut cue, phrase, number, title, days, house).expect("the cue keeps the limits");
         self.bytes.extend_from_slice(&cue[..length]);
         self.ordinals.push(ordinal);
     }
@@ -93,6 +116,7 @@ impl Book {
     pub fn check(&self, text: &Libretto, lent: &mut Lent) {
         check_reading(&self.bytes, (0, CUES_MAX as u32));
         self.check_damaged();
+        self.check_retitling();
         let entries = self.check_resolving(text, lent);
         for (cue, (phrase, ordinal)) in self.folded.iter().zip(&self.ordinals).enumerate() {
             let place = entries[3 * cue];
@@ -114,11 +138,42 @@ impl Book {
             // A title becomes dates, and dates a byte that begins no cue; and days come after the last one.
             let mut other = front.to_vec();
             other[length] ^= 0x87;
-            for damaged in [&front[..length], &changed, &other] {
-                let raw = read_book_raw(damaged);
+            // Dates become a mark, and a mark dates.
+            let mut marked = front.to_vec();
+            marked[length] ^= 1;
+            for damaged in [&front[..length], &changed, &other, &marked] {
+                let raw = read_book_raw(Role::Operator.number(), damaged);
                 check_reading(damaged, (raw.refusal, raw.number));
             }
         }
+    }
+
+    /// A title in each of some cues, one past the last, one that is too long, and one in a damaged book.
+    fn check_retitling(&self) {
+        let damaged = &self.bytes[..self.bytes.len() - 1];
+        let cues = [0, 1, 2, RETITLED, CUES_MAX - 1].map(|cue| (&self.bytes[..], cue, TITLE));
+        let refused = [(&self.bytes[..], CUES_MAX, TITLE), (&self.bytes, 0, &[b't'; 201]), (damaged, 0, TITLE)];
+        for (book, cue, title) in cues.into_iter().chain(refused) {
+            self.check_title("the reference", book, cue as u32, title, |cue, buffer| {
+                reference::retitle(Role::Translator.number(), book, cue, title, buffer)
+            });
+            for build in &BUILDS {
+                self.check_title("C", book, cue as u32, title, |cue, buffer| {
+                    let given = build.retitle(book, cue, title, buffer);
+                    (given.refusal, given.number)
+                });
+            }
+        }
+    }
+
+    /// Ends the program unless this side gives a cue of this book this title as the library does, in a buffer that is dirty before.
+    fn check_title(&self, side: &str, book: &[u8], cue: u32, title: &[u8], retitle: impl Fn(u32, &mut [u8]) -> (u32, u32)) {
+        let (mut library, mut other) = (vec![7; book.len() + title.len()], vec![7; book.len() + title.len()]);
+        let raw = retitle_raw(Role::Translator.number(), book, cue, title, &mut library);
+        let answer = retitle(cue, &mut other);
+        let told = format!("phrases {}, a title of {} bytes for cue {cue}", self.phrases, title.len());
+        assert_eq!((raw.refusal, raw.number), answer, "{told}: the library (left) and {side} answer differently");
+        assert!(library == other, "{told}: the library and {side} write different books");
     }
 
     /// The book's bytes with this cue in place of the one behind it too, so that its places rise up to this cue and no further.
@@ -129,51 +184,54 @@ impl Book {
 
     /// The place after so many cues.
     fn end_of(&self, cues: usize) -> usize {
-        (0..cues).fold(0, |place, _| reference::read_cue(&self.bytes, place).expect("the book keeps the limits").1)
+        (0..cues).fold(0, |place, _| reference::read_cue(Role::Operator.number(), &self.bytes, place).expect("the book keeps the limits").1)
     }
 
     /// The entries of all cues, which library, twins and reference must write alike. A side that is wrong where a cue is missing, does not run forward or
-    /// does not play could be faster, so they must agree on the text's first half too, where the later cues are not, on the book with a cue twice, and on
-    /// the next day.
+    /// is passed over could be faster, so they must agree on the text's first half too, where the later cues are not, on the book with a cue twice, on the
+    /// next day, and for a guest.
     fn check_resolving(&self, text: &Libretto, lent: &mut Lent) -> Vec<u32> {
         let twice = self.with_cue_twice(CUES_MAX / 2);
         for (book, letters) in [(&self.bytes, &text.letters[..TEXT_MAX / 2]), (&twice, &text.letters), (&self.bytes, &text.letters)] {
-            for day in [DAY, NEXT_DAY] {
-                self.check_side("the reference", day, book, letters, |memory| {
-                    reference::resolve(day, PAGE.number(), book, letters, memory.copy, memory.scratch, memory.entries)
+            for evening in EVENINGS {
+                self.check_side("the reference", evening, book, letters, |memory| {
+                    let lent = reference::Lent { copy: memory.copy, scratch: memory.scratch, entries: memory.entries };
+                    reference::resolve(evening.role.number(), evening.day, PAGE.number(), book, letters, lent)
                 });
-                BUILDS.iter().for_each(|build| self.check_side("C", day, book, letters, |memory| resolve_by_twin(build, day, book, letters, memory)));
+                for build in &BUILDS {
+                    self.check_side("C", evening, book, letters, |memory| resolve_by_twin(build, evening, book, letters, memory));
+                }
             }
         }
-        let raw = resolve_raw(DAY, PAGE.number(), &self.bytes, &text.letters, &mut lent.for_resolver());
+        let raw = resolve_raw(ALL.role.number(), ALL.day, PAGE.number(), &self.bytes, &text.letters, &mut lent.for_resolver());
         let due = (0, CUES_MAX as u32, (TEXT_MAX * self.groups()) as u32);
         assert_eq!((raw.refusal, raw.number, raw.reads), due, "{}: the library resolves all cues", self.phrases);
         lent.for_resolver().entries.to_vec()
     }
 
-    /// Ends the program unless this side answers as the library does on this day for this book, its own or one made of it, and these letters, and leaves
-    /// the same memory, which is dirty before.
-    fn check_side(&self, side: &str, day: u32, book: &[u8], letters: &[u8], resolve: impl Fn(&mut ResolverMemory<'_>) -> (u32, u32, u32)) {
+    /// Ends the program unless this side answers as the library does on this evening for this book, its own or one made of it, and these letters, and
+    /// leaves the same memory, which is dirty before.
+    fn check_side(&self, side: &str, evening: Evening, book: &[u8], letters: &[u8], resolve: impl Fn(&mut ResolverMemory<'_>) -> (u32, u32, u32)) {
         let dirt = Lent::dirty(&mut Random::new(3));
         let (mut library, mut other) = (dirt.clone(), dirt);
-        let raw = resolve_raw(day, PAGE.number(), book, letters, &mut library.for_resolver());
+        let raw = resolve_raw(evening.role.number(), evening.day, PAGE.number(), book, letters, &mut library.for_resolver());
         let answer = resolve(&mut other.for_resolver());
-        let told = format!("phrases {}, {} letters, day {day}", self.phrases, letters.len());
+        let told = format!("phrases {}, {} letters, {evening:?}", self.phrases, letters.len());
         assert_eq!((raw.refusal, raw.number, raw.reads), answer, "{told}: the library (left) and {side} answer differently");
         assert!(library == other, "{told}: the library and {side} leave different memory");
     }
 }
 
-fn resolve_by_twin(build: &Build, day: u32, book: &[u8], letters: &[u8], memory: &mut ResolverMemory<'_>) -> (u32, u32, u32) {
-    let given = build.resolve(day, PAGE, book, letters, memory);
+fn resolve_by_twin(build: &Build, evening: Evening, book: &[u8], letters: &[u8], memory: &mut ResolverMemory<'_>) -> (u32, u32, u32) {
+    let given = build.resolve(evening.role, evening.day, PAGE, book, letters, memory);
     (given.refusal, given.number, given.reads)
 }
 
 /// Ends the program unless the library, the reference and every build of the twin give this answer.
 fn check_reading(book: &[u8], answer: (u32, u32)) {
-    let raw = read_book_raw(book);
+    let raw = read_book_raw(Role::Operator.number(), book);
     assert_eq!((raw.refusal, raw.number), answer, "the library reads a book of {} bytes", book.len());
-    assert_eq!(reference::read_book(book), answer, "the reference reads a book of {} bytes", book.len());
+    assert_eq!(reference::read_book(Role::Operator.number(), book), answer, "the reference reads a book of {} bytes", book.len());
     for build in &BUILDS {
         let given = build.read_book(book);
         assert_eq!((given.refusal, given.number), answer, "C reads a book of {} bytes", book.len());
@@ -184,34 +242,48 @@ fn check_reading(book: &[u8], answer: (u32, u32)) {
 pub struct Contest<'a> {
     reading: Side<'a>,
     twins_reading: Vec<Side<'a>>,
+    retitling: Side<'a>,
+    twins_retitling: Vec<Side<'a>>,
     resolving: Side<'a>,
     twins_resolving: Vec<Side<'a>>,
     twins_finding: Vec<Side<'a>>,
 }
 
 impl<'a> Contest<'a> {
-    /// The book read, its cues resolved, and as many full finds of the folded phrases in the folded text.
+    /// The book read, a title of it replaced, its cues resolved, and as many full finds of the folded phrases in the folded text.
     pub fn new(book: &'a Book, text: &'a Libretto) -> Contest<'a> {
         let reading = Side::new(|_| {
-            black_box(read_book_raw(&book.bytes));
+            black_box(read_book_raw(Role::Operator.number(), &book.bytes));
+        });
+        let retitling = Side::new(|lent| {
+            black_box(retitle_raw(Role::Translator.number(), &book.bytes, RETITLED as u32, TITLE, &mut lent.book));
         });
         let resolving = Side::new(|lent| {
-            black_box(resolve_raw(DAY, PAGE.number(), &book.bytes, &text.letters, &mut lent.for_resolver()));
+            black_box(resolve_raw(ALL.role.number(), ALL.day, PAGE.number(), &book.bytes, &text.letters, &mut lent.for_resolver()));
         });
         let twins_resolving = |build: &'static Build| {
             Side::new(move |lent| {
-                black_box(build.resolve(DAY, PAGE, &book.bytes, &text.letters, &mut lent.for_resolver()));
+                black_box(build.resolve(ALL.role, ALL.day, PAGE, &book.bytes, &text.letters, &mut lent.for_resolver()));
             })
         };
         let twins_resolving = BUILDS.iter().map(twins_resolving).collect();
-        Contest { reading, twins_reading: twins_reading(book), resolving, twins_resolving, twins_finding: twins_finding(book, text) }
+        Contest {
+            reading,
+            twins_reading: twins_reading(book),
+            retitling,
+            twins_retitling: twins_retitling(book),
+            resolving,
+            twins_resolving,
+            twins_finding: twins_finding(book, text),
+        }
     }
 
     /// So many rounds of all sides.
     pub fn run(&mut self, count: usize, lent: &mut Lent) {
         let reading = std::iter::once(&mut self.reading).chain(&mut self.twins_reading);
+        let retitling = std::iter::once(&mut self.retitling).chain(&mut self.twins_retitling);
         let resolving = std::iter::once(&mut self.resolving).chain(&mut self.twins_resolving);
-        rounds(&mut reading.chain(resolving).chain(&mut self.twins_finding).collect::<Vec<_>>(), count, lent);
+        rounds(&mut reading.chain(retitling).chain(resolving).chain(&mut self.twins_finding).collect::<Vec<_>>(), count, lent);
     }
 
     /// The best times so far.
@@ -219,6 +291,8 @@ impl<'a> Contest<'a> {
         BookTimes {
             reading: self.reading.best(),
             twin_reading: least(self.twins_reading.iter().map(Side::best)),
+            retitling: self.retitling.best(),
+            twin_retitling: least(self.twins_retitling.iter().map(Side::best)),
             resolving: self.resolving.best(),
             twin_resolving: least(self.twins_resolving.iter().map(Side::best)),
             twin_finding: least(self.twins_finding.iter().map(Side::best)),
@@ -230,6 +304,15 @@ fn twins_reading(book: &Book) -> Vec<Side<'_>> {
     let side = |build: &'static Build| {
         Side::new(move |_| {
             black_box(build.read_book(&book.bytes));
+        })
+    };
+    BUILDS.iter().map(side).collect()
+}
+
+fn twins_retitling(book: &Book) -> Vec<Side<'_>> {
+    let side = |build: &'static Build| {
+        Side::new(move |lent| {
+            black_box(build.retitle(&book.bytes, RETITLED as u32, TITLE, &mut lent.book));
         })
     };
     BUILDS.iter().map(side).collect()
@@ -252,6 +335,10 @@ pub struct BookTimes {
     pub reading: f64,
     /// The same by the best build of the C twin.
     pub twin_reading: f64,
+    /// The title of the cue in the middle replaced by the library.
+    pub retitling: f64,
+    /// The same by the best build of the C twin.
+    pub twin_retitling: f64,
     /// All cues resolved by the library.
     pub resolving: f64,
     /// The same by the best build of the C twin.
@@ -274,31 +361,41 @@ mod tests {
     #[test]
     fn twins_resolve_as_the_library_does() {
         let (letters, book) = front();
-        // A cue is missing; and the second cue, the last of a group and the first of the next one do not run forward; on the next day these are others.
+        // A cue is missing; and the second cue, the last of a group and the first of the next one do not run forward; on the other evenings these are
+        // others.
         let books = [0, 62, 63, 126, 127].map(|cue| book.with_cue_twice(cue)).into_iter().chain([book.bytes.clone()]);
-        let calls = books.flat_map(|bytes| [DAY, NEXT_DAY].map(|day| (bytes.clone(), day)));
-        for ((bytes, day), build) in calls.zip(BUILDS.iter().cycle()) {
-            book.check_side("C", day, &bytes, &letters, |memory| resolve_by_twin(build, day, &bytes, &letters, memory));
+        let calls = books.flat_map(|bytes| EVENINGS.map(|evening| (bytes.clone(), evening)));
+        for ((bytes, evening), build) in calls.zip(BUILDS.iter().cycle()) {
+            book.check_side("C", evening, &bytes, &letters, |memory| resolve_by_twin(build, evening, &bytes, &letters, memory));
         }
     }
 
     #[test]
-    fn twins_pass_over_cues_that_do_not_play() {
+    fn twins_pass_over_cues() {
         let (letters, book) = front();
-        // The front has the cues of 80 or more, of which every second one plays on the next day, so that the first missing one is in another group.
-        let answers = [DAY, NEXT_DAY].map(|day| {
+        // The front has the cues of 80 or more. Of these every second one plays on the next day, and two of three are a guest's, so that the first missing
+        // one is in another group, and a guest's number is two thirds of the operator's.
+        let answers = EVENINGS.map(|evening| {
             let mut lent = Lent::dirty(&mut Random::new(5));
-            resolve_by_twin(&BUILDS[0], day, &book.bytes, &letters, &mut lent.for_resolver())
+            resolve_by_twin(&BUILDS[0], evening, &book.bytes, &letters, &mut lent.for_resolver())
         });
-        assert!(answers.iter().all(|&(refusal, cue, _)| refusal == 12 && cue > 64), "{answers:?}");
-        assert_eq!(answers.map(|(_, _, reads)| reads), [2 * 3000, 3000], "a group, and half of one");
-        // A book of which no cue plays is of no group.
-        let dated = &book.bytes[book.end_of(1)..book.end_of(2)];
-        for (day, answer) in [(DAY, (0, 1, 3000)), (NEXT_DAY, (0, 0, 0)), (DAYS.first - 1, (0, 0, 0))] {
+        assert!(answers.iter().all(|&(refusal, cue, _)| refusal == 12 && cue > 50), "{answers:?}");
+        assert_eq!(answers.map(|(_, _, reads)| reads), [2 * 3000, 3000, 3000, 3000], "a group, and parts of one");
+        assert!(answers[0].1 > answers[2].1 && answers[1].1 > answers[3].1, "{answers:?}");
+        // A book of which no cue is resolved is of no group: the second one, which is open and dated, and the third, which is house only and undated.
+        for (cue, evening, answer) in [
+            (1, ALL, (0, 1, 3000)),
+            (1, Evening { role: Role::Guest, ..ALL }, (0, 1, 3000)),
+            (1, Evening { day: NEXT_DAY, ..ALL }, (0, 0, 0)),
+            (1, Evening { day: DAYS.first - 1, ..ALL }, (0, 0, 0)),
+            (2, ALL, (0, 1, 3000)),
+            (2, Evening { role: Role::Guest, ..ALL }, (0, 0, 0)),
+        ] {
+            let bytes = &book.bytes[book.end_of(cue)..book.end_of(cue + 1)];
             for build in &BUILDS {
-                book.check_side("C", day, dated, &letters, |memory| {
-                    let given = resolve_by_twin(build, day, dated, &letters, memory);
-                    assert_eq!(given, answer, "day {day}");
+                book.check_side("C", evening, bytes, &letters, |memory| {
+                    let given = resolve_by_twin(build, evening, bytes, &letters, memory);
+                    assert_eq!(given, answer, "cue {cue}, {evening:?}");
                     given
                 });
             }
@@ -306,17 +403,23 @@ mod tests {
     }
 
     #[test]
-    fn twins_read_damaged_dates_as_the_library_does() {
+    fn twins_retitle_as_the_library_does() {
+        let (_, book) = front();
+        book.check_retitling();
+    }
+
+    #[test]
+    fn twins_read_damaged_fields_as_the_library_does() {
         let (_, book) = front();
         book.check_damaged();
-        // The last field of the second cue is its dates; each byte of it is any other.
-        let end = book.end_of(2);
+        // The last field of the second cue is its dates, and that of the third its mark; each byte of these is any other.
+        let (dates, mark) = (book.end_of(2), book.end_of(3));
         let mut refusals = Vec::new();
-        for place in end - 7..end {
+        for place in (dates - 7..dates).chain(mark - 4..mark) {
             for byte in 0..=255 {
-                let mut changed = book.bytes[..book.end_of(3)].to_vec();
+                let mut changed = book.bytes[..book.end_of(4)].to_vec();
                 changed[place] = byte;
-                let raw = read_book_raw(&changed);
+                let raw = read_book_raw(Role::Operator.number(), &changed);
                 check_reading(&changed, (raw.refusal, raw.number));
                 refusals.push(raw.refusal);
             }
@@ -329,7 +432,7 @@ mod tests {
         let (letters, book) = front();
         for cue in [0, 1, 62, 63, 64] {
             let mut lent = Lent::dirty(&mut Random::new(4));
-            let answer = resolve_by_twin(&BUILDS[0], DAY, &book.with_cue_twice(cue), &letters, &mut lent.for_resolver());
+            let answer = resolve_by_twin(&BUILDS[0], ALL, &book.with_cue_twice(cue), &letters, &mut lent.for_resolver());
             let groups = if cue + 1 < 64 { 1 } else { 2 };
             assert_eq!(answer, (15, cue as u32 + 1, 3000 * groups), "cue {cue} twice");
         }
@@ -339,8 +442,8 @@ mod tests {
     #[should_panic(expected = "a side that counts no reads answer differently")]
     fn a_wrong_answer_is_found() {
         let (letters, book) = front();
-        book.check_side("a side that counts no reads", DAY, &book.bytes, &letters, |memory| {
-            let (refusal, number, _) = resolve_by_twin(&BUILDS[0], DAY, &book.bytes, &letters, memory);
+        book.check_side("a side that counts no reads", ALL, &book.bytes, &letters, |memory| {
+            let (refusal, number, _) = resolve_by_twin(&BUILDS[0], ALL, &book.bytes, &letters, memory);
             (refusal, number, 0)
         });
     }
@@ -349,8 +452,8 @@ mod tests {
     #[should_panic(expected = "a side that does not clear its scratch leave different memory")]
     fn wrong_memory_is_found() {
         let (letters, book) = front();
-        book.check_side("a side that does not clear its scratch", DAY, &book.bytes, &letters, |memory| {
-            let answer = resolve_by_twin(&BUILDS[0], DAY, &book.bytes, &letters, memory);
+        book.check_side("a side that does not clear its scratch", ALL, &book.bytes, &letters, |memory| {
+            let answer = resolve_by_twin(&BUILDS[0], ALL, &book.bytes, &letters, memory);
             memory.scratch[40_000] = 1;
             answer
         });

@@ -243,14 +243,17 @@ fn cuts(results: &Results) -> String {
 
 fn books(results: &Results) -> String {
     let folding = &results.folding;
-    let headings = ["phrases (book)", "reading the book", "over C", "resolving", "walks", "over C", "over finds by FJS in C", "C over finds"];
-    let mut table = Table::new(headings);
+    let reading = ["phrases (book)", "reading the book", "over C", "another title", "over C"];
+    let resolving = ["resolving", "walks", "over C", "over finds by FJS in C", "C over finds"];
+    let mut table = Table::new(reading.into_iter().chain(resolving));
     for book in &results.books {
         let times = &book.times;
         table.row([
             format!("{} ({} bytes)", book.phrases, grouped(book.length)),
             format!("{:.1} µs", times.reading / 1e3),
             format!("{:.2}", times.reading / times.twin_reading),
+            format!("{:.1} µs", times.retitling / 1e3),
+            format!("{:.2}", times.retitling / times.twin_retitling),
             format!("{:.2} ms", times.resolving / 1e6),
             book.groups.to_string(),
             format!("{:.2}", times.resolving / times.twin_resolving),
@@ -260,11 +263,12 @@ fn books(results: &Results) -> String {
     }
     format!(
         "## Cue books\n\n\
-         Books of {CUES_MAX} cues that stand in 32,768 letters of verse, evenly spread and rising, every second one with days; all of them play. Reading \
-         is a test of the whole book. Resolving walks over the text once for each group of cues, by an automaton of the group's phrases. It is over the \
-         same in C, with the same automaton in the same scratch of 65,535 entries; and over {CUES_MAX} full finds of the phrases by FJS in C, which are \
-         folded beforehand, in the folded text: the resolver folds them itself, and gives line and column too. A book of long phrases has many groups \
-         of a few cues; each walk reads every letter, where a find leaves most of them out, so it has no goal against finds.\n\n{}\n\
+         Books of {CUES_MAX} cues that stand in 32,768 letters of verse, evenly spread and rising, every second one with days and every third one \
+         house only; all of them play, and the operator resolves them all. Reading is a test of the whole book. Another title has it tested and written \
+         anew, with the title of its middle cue replaced. Resolving walks over the text once for each group of cues, by an automaton of the group's \
+         phrases. It is over the same in C, with the same automaton in the same scratch of 65,535 entries; and over {CUES_MAX} full finds of the phrases \
+         by FJS in C, which are folded beforehand, in the folded text: the resolver folds them itself, and gives line and column too. A book of long \
+         phrases has many groups of a few cues; each walk reads every letter, where a find leaves most of them out, so it has no goal against finds.\n\n{}\n\
          The library folds the 32,768 letters by page 1 in {:.2} µs, which is {:.2} bytes a nanosecond; by page 15, which looks each letter up in a \
          table, in {:.2} µs, which is {:.2}, and {:.2} of a loop over a constant table in C. A resolve of a book without cues folds the letters by page \
          1 into the copy and clears the scratch, and takes {:.2} µs.\n",

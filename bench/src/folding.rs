@@ -5,7 +5,7 @@ use crate::clock::{rounds, Side};
 use crate::lent::Lent;
 use crate::statistics::least;
 use crate::twins::{Build, BUILDS};
-use libretto::{fold_text_raw, resolve_raw, Page};
+use libretto::{fold_text_raw, resolve_raw, Page, Role};
 use std::hint::black_box;
 
 /// Ends the program unless this side folds these letters by page 15 as the reference does, and leaves what is past them.
@@ -50,7 +50,7 @@ impl<'a> Contest<'a> {
     /// The library's folding of a text by both pages, the twins by page 15, and a resolve of a book without cues by page 1.
     pub fn new(text: &'a Libretto) -> Contest<'a> {
         let no_cues = Side::new(|lent: &mut Lent| {
-            black_box(resolve_raw(DAY, Page::Latin1.number(), &[], &text.letters, &mut lent.for_resolver()));
+            black_box(resolve_raw(Role::Operator.number(), DAY, Page::Latin1.number(), &[], &text.letters, &mut lent.for_resolver()));
         });
         let twin = |build: &'static Build| {
             Side::new(move |lent: &mut Lent| {

@@ -1,7 +1,7 @@
 //! The memory that every call of a measurement is lent, the library's and its twins' alike.
 
 use crate::random::Random;
-use libretto::{Method, ResolverMemory, CUES_MAX, CUE_ENTRIES, MOVE_ENTRIES, PHRASE_MAX, RESOLVER_SCRATCH, TEXT_MAX};
+use libretto::{Method, ResolverMemory, CUES_MAX, CUE_ENTRIES, CUE_MAX, MOVE_ENTRIES, PHRASE_MAX, RESOLVER_SCRATCH, TEXT_MAX};
 
 /// The scratch entries that are enough for every engine: improved FJS needs the most.
 const SCRATCH: usize = Method::ImprovedFjs.scratch_entries(PHRASE_MAX);
@@ -21,6 +21,8 @@ pub struct Lent {
     pub list: Vec<u32>,
     /// The moves made.
     pub moves: Vec<u32>,
+    /// A book with another title.
+    pub book: Vec<u8>,
     copy: Vec<u8>,
     resolver_scratch: Vec<u16>,
     entries: Vec<u32>,
@@ -33,6 +35,7 @@ impl Lent {
             scratch: (0..SCRATCH).map(|_| random.next() as u16).collect(),
             list: (0..LIST).map(|_| random.next() as u32).collect(),
             moves: (0..MOVES).map(|_| random.next() as u32).collect(),
+            book: vec![random.next() as u8; CUES_MAX * CUE_MAX],
             copy: (0..TEXT_MAX).map(|_| random.next() as u8).collect(),
             resolver_scratch: (0..RESOLVER_SCRATCH).map(|_| random.next() as u16).collect(),
             entries: (0..CUE_ENTRIES * CUES_MAX).map(|_| random.next() as u32).collect(),

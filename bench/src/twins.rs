@@ -3,7 +3,7 @@
 //! A twin refuses nothing, so what the library would refuse is asserted here before the call.
 
 use crate::lent::Lent;
-use libretto::{Method, Page, RawFinding, ResolverMemory, DAY_MAX, PHRASE_MAX, RESOLVER_SCRATCH, TEXT_MAX};
+use libretto::{Method, Page, RawFinding, ResolverMemory, Role, DAY_MAX, PHRASE_MAX, RESOLVER_SCRATCH, TEXT_MAX};
 use std::ops::Range;
 
 /// What an engine's twin gives back.
@@ -26,13 +26,13 @@ pub struct TwinMovesFinding {
     pub moves: u32,
 }
 
-/// What the twins of the book reader and of late cuts give back.
+/// What the twins of the book reader, of another title and of late cuts give back.
 #[derive(Clone, Copy, Debug, PartialEq, Eq)]
 #[repr(C)]
 pub struct TwinAnswer {
     /// The refusal's number, or 0.
     pub refusal: u32,
-    /// A number of places or of cues, or the index of the refused cue.
+    /// A number of places, of cues or of bytes, or the index of the refused cue.
     pub number: u32,
 }
 
@@ -42,7 +42,7 @@ pub struct TwinAnswer {
 pub struct TwinResolving {
     /// The refusal's number, or 0.
     pub refusal: u32,
-    /// The number of playing cues, or the index of the refused cue.
+    /// The number of resolved cues, or of the refused cue.
     pub number: u32,
     /// The letters of the text that were read.
     pub reads: u32,
@@ -53,7 +53,8 @@ type FindMoves = unsafe extern "C" fn(*const u8, usize, *const u8, usize, *mut u
 type Relist =
     unsafe extern "C" fn(*const u8, usize, *const u8, usize, *const u32, usize, usize, usize, *const u8, usize, *mut u32, usize) -> TwinAnswer;
 type ReadBook = unsafe extern "C" fn(*const u8, usize) -> TwinAnswer;
-type Resolve = unsafe extern "C" fn(u32, u32, *const u8, usize, *const u8, usize, *mut u8, *mut u16, usize, *mut u32, usize) -> TwinResolving;
+type Retitle = unsafe extern "C" fn(*const u8, usize, u32, *const u8, usize, *mut u8) -> TwinAnswer;
+type Resolve = unsafe extern "C" fn(u32, u32, u32, *const u8, usize, *const u8, usize, *mut u8, *mut u16, usize, *mut u32, usize) -> TwinResolving;
 type Fold = unsafe extern "C" fn(*const u8, usize, *mut u8);
 
 /// The twins compiled with one placement of code.
@@ -62,13 +63,14 @@ pub struct Build {
     find_moves: FindMoves,
     relist: Relist,
     read_book: ReadBook,
+    retitle: Retitle,
     resolve: Resolve,
     fold: Fold,
 }
 
 /// Declares the functions of each build and lists the builds.
 macro_rules! builds {
-    ($($fold:ident $resolve:ident $read_book:ident $relist:ident $find_moves:ident: $($find:ident)*;)*) => {
+    ($($fold:ident $resolve:ident $retitle:ident $read_book:ident $relist:ident $find_moves:ident: $($find:ident)*;)*) => {
         extern "C" {
             $(
                 $(fn $find(phrase: *const u8, m: usize, text: *const u8, n: usize, scratch: *mut u16, list: *mut u32, list_len: usize) -> TwinFinding;)*
@@ -98,7 +100,9 @@ macro_rules! builds {
                     lent_len: usize,
                 ) -> TwinAnswer;
                 fn $read_book(book: *const u8, book_len: usize) -> TwinAnswer;
+                fn $retitle(book: *const u8, book_len: usize, cue: u32, title: *const u8, title_len: usize, buffer: *mut u8) -> TwinAnswer;
                 fn $resolve(
+                    role: u32,
                     day: u32,
                     page: u32,
                     book: *const u8,
@@ -116,15 +120,22 @@ macro_rules! builds {
         }
 
         /// The builds that `build.rs` makes. The best of them stands for C.
-        pub static BUILDS: [Build; 3] =
-            [$(Build { finds: [$($find),*], find_moves: $find_moves, relist: $relist, read_book: $read_book, resolve: $resolve, fold: $fold }),*];
+        pub static BUILDS: [Build; 3] = [$(Build {
+            finds: [$($find),*],
+            find_moves: $find_moves,
+            relist: $relist,
+            read_book: $read_book,
+            retitle: $retitle,
+            resolve: $resolve,
+            fold: $fold,
+        }),*];
     };
 }
 
 builds! {
-    twin_fold_plain twin_resolve_plain twin_read_book_plain twin_relist_plain twin_fjs_moves_plain: twin_naive_plain twin_kmp_plain twin_horspool_plain twin_sunday_plain twin_fjs_plain twin_double_window_plain twin_boyer_moore_plain twin_improved_fjs_plain;
-    twin_fold_wide twin_resolve_wide twin_read_book_wide twin_relist_wide twin_fjs_moves_wide: twin_naive_wide twin_kmp_wide twin_horspool_wide twin_sunday_wide twin_fjs_wide twin_double_window_wide twin_boyer_moore_wide twin_improved_fjs_wide;
-    twin_fold_packed twin_resolve_packed twin_read_book_packed twin_relist_packed twin_fjs_moves_packed: twin_naive_packed twin_kmp_packed twin_horspool_packed twin_sunday_packed twin_fjs_packed twin_double_window_packed twin_boyer_moore_packed twin_improved_fjs_packed;
+    twin_fold_plain twin_resolve_plain twin_retitle_plain twin_read_book_plain twin_relist_plain twin_fjs_moves_plain: twin_naive_plain twin_kmp_plain twin_horspool_plain twin_sunday_plain twin_fjs_plain twin_double_window_plain twin_boyer_moore_plain twin_improved_fjs_plain;
+    twin_fold_wide twin_resolve_wide twin_retitle_wide twin_read_book_wide twin_relist_wide twin_fjs_moves_wide: twin_naive_wide twin_kmp_wide twin_horspool_wide twin_sunday_wide twin_fjs_wide twin_double_window_wide twin_boyer_moore_wide twin_improved_fjs_wide;
+    twin_fold_packed twin_resolve_packed twin_retitle_packed twin_read_book_packed twin_relist_packed twin_fjs_moves_packed: twin_naive_packed twin_kmp_packed twin_horspool_packed twin_sunday_packed twin_fjs_packed twin_double_window_packed twin_boyer_moore_packed twin_improved_fjs_packed;
 }
 
 type LibraryFind = unsafe extern "C" fn(u32, *const u8, usize, *const u8, usize, *mut u16, usize, *mut u32, usize) -> RawFinding;
@@ -255,14 +266,30 @@ impl Build {
         unsafe { (self.read_book)(book.as_ptr(), book.len()) }
     }
 
+    /// The twin of another title.
+    pub fn retitle(&self, book: &[u8], cue: u32, title: &[u8], buffer: &mut [u8]) -> TwinAnswer {
+        assert!(buffer.len() >= book.len() + title.len());
+        // SAFETY: each pointer comes from a slice; the buffer's length is not passed on, and the twin writes no more bytes than the assertion found room
+        // for. The exclusive borrow keeps the buffer apart from book and title, and all borrows outlive the call, which keeps no pointer. The twin accepts
+        // any bytes and any index. `TwinAnswer` has the layout of the C structure.
+        unsafe { (self.retitle)(book.as_ptr(), book.len(), cue, title.as_ptr(), title.len(), buffer.as_mut_ptr()) }
+    }
+
     /// The resolver's twin.
-    pub fn resolve(&self, day: u32, page: Page, book: &[u8], text: &[u8], memory: &mut ResolverMemory<'_>) -> TwinResolving {
-        assert!(day <= DAY_MAX && text.len() <= TEXT_MAX && memory.copy.len() >= text.len() && memory.scratch.len() >= RESOLVER_SCRATCH);
+    pub fn resolve(&self, role: Role, day: u32, page: Page, book: &[u8], text: &[u8], memory: &mut ResolverMemory<'_>) -> TwinResolving {
+        assert!(
+            role != Role::Translator
+                && day <= DAY_MAX
+                && text.len() <= TEXT_MAX
+                && memory.copy.len() >= text.len()
+                && memory.scratch.len() >= RESOLVER_SCRATCH
+        );
         // SAFETY: each pointer comes from a slice; the copy's length is not passed on, and the twin writes as many letters as the assertion found room
         // for. The exclusive borrows keep copy, scratch and entries apart from each other and from book and text, and all borrows outlive the call,
         // which keeps no pointer. The twin accepts any bytes. `TwinResolving` has the layout of the C structure.
         unsafe {
             (self.resolve)(
+                role.number(),
                 day,
                 page.number(),
                 book.as_ptr(),
