@@ -4,6 +4,7 @@
 ghost use mathlib.Core.Path.{_≡_};
 ghost use Prim.Native.Nat.{_≤_};
 ghost use lib.ListN.{drop};
+ghost use mathlib.Core.Bool.{_||_};
 ghost use lib.Dec.{eqb};
 ghost use Rattle.matching.specs.Refusals.{firstMet};
 ghost use Rattle.cue_fields.specs.declared.Due.the-variants.{Phrase, Ordinal, Title, Dates, House};
@@ -208,6 +209,16 @@ fn stands_at(book: &[u8], place: usize, due: Due) -> bool
         return false;
     }
     is_tag(due, book[place])
+}
+
+// Whether a field that may be left out stands at a place of a book.
+pub fn more_at(book: &[u8], place: usize) -> bool
+    ensures { λ r. ⌜ r ≡ (stands Dates (drop place (now (book .entry))) || stands House (drop place (now (book .entry)))) ⌝ }
+{
+    if stands_at(book, place, Due::Dates) {
+        return true;
+    }
+    stands_at(book, place, Due::House)
 }
 
 // Reads the field that is due at a place of a book, or passes it over where it is left out: its body is then the empty part at the place.

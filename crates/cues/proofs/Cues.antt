@@ -8,7 +8,7 @@ use lib.Dec.{leb}
 use denote.Enum.Declared as declared
 use borrow.Author.Tests.{eq-eqb, ne-eqb, leb-true}
 use Rattle.matching.proofs.CaseAnalysis.{both}
-use Rattle.cue_fields.specs.declared.Due.the-variants.{Phrase, Ordinal, Title, Dates, House}
+use Rattle.cue_fields.specs.declared.Due.the-variants.{Phrase, Ordinal, Title}
 use Rattle.cue_fields.specs.Field.{numberIn, fieldLength, fieldSize, fieldBody, afterField, part}
 use Rattle.cue_fields.specs.Form.{dueSize, dueBody, formSize, afterForm, formBodies}
 use Rattle.cue_fields.proofs.Fields.{Fielded, after-field, told-apart, firstOf}
@@ -19,8 +19,9 @@ use Rattle.cues.specs.declared.CueAnswer.the-variants as answer
 use Rattle.cues.proofs.CueAnswer as answers
 use Rattle.cues.specs.declared.Days.{Days}
 use Rattle.cues.specs.declared.Mark.{Mark}
-use Rattle.cues.specs.Cue.{Cue, cueWith, cueForm, headForm, daysFrom, markFrom, cueFrom}
+use Rattle.cues.specs.Cue.{Cue, cueWith, cueForm, headForm, cueFrom}
 use Rattle.cues.specs.Reading.{cueRefusal, cueSize, cueOf}
+use Rattle.cues.specs.Rest.{tailForm, RestIs}
 use Rattle.cues.specs.Places.{cueNumber, cueEnd, cuesMeant, titleStart, titleLength, titleEnd, cueAt, CueRead}
 
 -- ---- a cue, from what is left of the book
@@ -34,13 +35,13 @@ module _ (rest : List ℕ) where
   -- one that is read begins with a phrase and an ordinal, takes some bytes, and no more than there are
   pub cue-phrase : cueRefusal rest ≡ 0 → Fielded Phrase rest
   unfolding cueRefusal
-  cue-phrase e = due-fielded Phrase rest refl (form-fine Phrase (Ordinal ∷ Title ∷ Dates ∷ House ∷ []) rest e .0)
+  cue-phrase e = due-fielded Phrase rest refl (form-fine Phrase (Ordinal ∷ Title ∷ tailForm) rest e .0)
 
   pub cue-ordinal : cueRefusal rest ≡ 0 → Fielded Ordinal (afterField rest)
   unfolding cueRefusal dueSize
   cue-ordinal e =
-      let f = form-fine Phrase (Ordinal ∷ Title ∷ Dates ∷ House ∷ []) rest e .1 in
-      due-fielded Ordinal (afterField rest) refl (form-fine Ordinal (Title ∷ Dates ∷ House ∷ []) (afterField rest) f .0)
+      let f = form-fine Phrase (Ordinal ∷ Title ∷ tailForm) rest e .1 in
+      due-fielded Ordinal (afterField rest) refl (form-fine Ordinal (Title ∷ tailForm) (afterField rest) f .0)
 
   pub cue-some : cueRefusal rest ≡ 0 → length rest ≡ 0 → ⊥
   cue-some e z = omega (arith, cue-phrase e .header)
@@ -76,28 +77,28 @@ module _ (book : List ℕ) (place : ℕ) where
       let off = ne-eqb (cueRefusal (drop place book)) 0 (λ z. some (sym e ∙ z)) in
       record { answer = rw off (ap answer.Refused (sym e)); number = sym e; meant = rw off }
 
--- its fields, read one after another
+-- its fields, read one after another, and those behind its title together
 module _
     {book : List ℕ}
-    {place phrase phrase-end body ordinal-end title title-end dates dates-end house end : ℕ}
+    {place phrase phrase-end body ordinal-end title title-end end : ℕ}
+    {days : Days}
+    {mark : Mark}
     (p : DueAt book place Phrase phrase phrase-end)
     (o : DueAt book phrase-end Ordinal body ordinal-end)
     (t : DueAt book ordinal-end Title title title-end)
-    (d : DueAt book title-end Dates dates dates-end)
-    (h : DueAt book dates-end House house end)
+    (w : RestIs book title-end days mark end)
   where
     fields-none : cueRefusal (drop place book) ≡ 0
     unfolding cueRefusal
-    fields-none = step-refusal p (Ordinal ∷ Title ∷ Dates ∷ House ∷ []) ∙ step-refusal o (Title ∷ Dates ∷ House ∷ []) ∙ step-refusal t (Dates ∷ House ∷ []) ∙ step-refusal d (House ∷ []) ∙ step-refusal h [] ∙ form-none (drop end book) .0
+    fields-none = step-refusal p (Ordinal ∷ Title ∷ tailForm) ∙ step-refusal o (Title ∷ tailForm) ∙ step-refusal t tailForm ∙ w .none
 
-    fields-value : cueWith (part book phrase phrase-end) (numberIn (part book body ordinal-end)) (part book title title-end) (daysFrom (part book dates dates-end)) (markFrom (part book house end)) ≡ cueOf (drop place book)
+    fields-value : cueWith (part book phrase phrase-end) (numberIn (part book body ordinal-end)) (part book title title-end) days mark ≡ cueOf (drop place book)
     unfolding cueOf
     fields-value =
-        let fifth = step-bodies h [] ∙ ap (λ (l : List (List ℕ)). part book house end ∷ l) (form-none (drop end book) .2) in
-        let fourth = step-bodies d (House ∷ []) ∙ ap (λ (l : List (List ℕ)). part book dates dates-end ∷ l) fifth in
-        let third = step-bodies t (Dates ∷ House ∷ []) ∙ ap (λ (l : List (List ℕ)). part book title title-end ∷ l) fourth in
-        let second = step-bodies o (Title ∷ Dates ∷ House ∷ []) ∙ ap (λ (l : List (List ℕ)). part book body ordinal-end ∷ l) third in
-        ap cueFrom (sym (step-bodies p (Ordinal ∷ Title ∷ Dates ∷ House ∷ []) ∙ ap (λ (l : List (List ℕ)). part book phrase phrase-end ∷ l) second))
+        let third = step-bodies t tailForm in
+        let second = step-bodies o (Title ∷ tailForm) ∙ ap (λ (l : List (List ℕ)). part book body ordinal-end ∷ l) third in
+        ap₂ (cueWith (part book phrase phrase-end) (numberIn (part book body ordinal-end)) (part book title title-end)) (w .days-are) (w .mark-is)
+        ∙ ap cueFrom (sym (step-bodies p (Ordinal ∷ Title ∷ tailForm) ∙ ap (λ (l : List (List ℕ)). part book phrase phrase-end ∷ l) second))
 
     -- where its phrase ends, where its title stands, and where it ends
     phrase-ends : phrase-end ≡ place + fieldSize (drop place book)
@@ -115,20 +116,15 @@ module _
         omega (arith, title-starts, t .start-is refl, t .end-is, ap fieldLength head)
 
     cue-ends : end ≡ place + cueSize (drop place book)
-    cue-ends =
-        omega
-        (arith, step-size p (Ordinal ∷ Title ∷ Dates ∷ House ∷ []), step-size o (Title ∷ Dates ∷ House ∷ []), step-size t (Dates ∷ House ∷ []), step-size d (House ∷ []), step-size h [], form-none (drop end book) .1)
+    cue-ends = omega (arith, step-size p (Ordinal ∷ Title ∷ tailForm), step-size o (Title ∷ tailForm), step-size t tailForm, w .end-is)
 
-    pub cue-read : {ordinal : ℕ} {days : Days} {mark : Mark} → ordinal ≡ numberIn (part book body ordinal-end) → days ≡ daysFrom (part book dates dates-end) → mark ≡ markFrom (part book house end)
-        → CueRead book place (answer.Cue phrase phrase-end ordinal title title-end days mark end)
+    pub cue-read : {ordinal : ℕ} → ordinal ≡ numberIn (part book body ordinal-end) → CueRead book place (answer.Cue phrase phrase-end ordinal title title-end days mark end)
     unfolding cueAt
-    cue-read {ordinal} {days} {mark} e g k =
+    cue-read {ordinal} e =
         let rest : List ℕ = drop place book in
         let on = eq-eqb (cueRefusal rest) 0 fields-none in
         let value : cueWith (part book phrase phrase-end) ordinal (part book title title-end) days mark ≡ cueOf rest =
-        ap₂ (λ (n : ℕ) (x : Days). cueWith (part book phrase phrase-end) n (part book title title-end) x mark) e g
-        ∙ ap (cueWith (part book phrase phrase-end) (numberIn (part book body ordinal-end)) (part book title title-end) (daysFrom (part book dates dates-end))) k
-        ∙ fields-value in
+        ap (λ (n : ℕ). cueWith (part book phrase phrase-end) n (part book title title-end) days mark) e ∙ fields-value in
         record {
           answer = rw on (rw (p .start-is refl, phrase-ends, ap (λ (c : Cue). c .ordinal) value, title-starts, title-stops, ap (λ (c : Cue). c .days) value, ap (λ (c : Cue). c .mark) value, cue-ends) refl);
           number = sym fields-none;

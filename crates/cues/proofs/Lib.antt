@@ -1,4 +1,5 @@
 -- The laws of cues, of their values, and of their titles.
+pub mod Rest
 pub mod Cues
 pub mod Values
 pub mod Titles

@@ -2,3 +2,4 @@
 pub mod Cue
 pub mod Reading
 pub mod Places
+pub mod Rest

@@ -4,8 +4,11 @@
 use cue_fields::Due;
 use cue_fields::FieldAnswer;
 ghost use mathlib.Core.Path.{_≡_};
+ghost use Prim.Native.Nat.{_≤_};
+ghost use lib.ListN.{length};
 ghost use Rattle.cues.specs.Cue.{daysFrom, markFrom, daysHold, sees, isChosen};
 ghost use Rattle.cues.specs.Places.{cueNumber, CueRead};
+ghost use Rattle.cues.specs.Rest.{restNumber, RestRead};
 
 // The days on which a cue plays: always, or from a first day to a last one.
 pub enum Days {
@@ -38,6 +41,12 @@ pub enum CueAnswer {
         mark: Mark,
         end: usize,
     },
+    Refused(u32),
+}
+
+// What reading the fields behind a cue's title gives: its days, its mark, and the place after the cue; or the refusal's number.
+enum RestAnswer {
+    Rest { days: Days, mark: Mark, end: usize },
     Refused(u32),
 }
 
@@ -97,6 +106,45 @@ fn mark_in(body: &[u8]) -> Mark
     Mark::HouseOnly
 }
 
+// Reads the fields behind a cue's title, each of which may be left out, the first refusal leaving at the spot. Most cues end with their title, so that is asked first.
+fn read_rest(book: &[u8], place: usize) -> RestAnswer
+    requires { ⌜ place ≤ length (now book) ⌝ }
+    ensures { λ r. ⌜ RestRead (now (book .entry)) place r ⌝ }
+{
+    if !cue_fields::more_at(book, place) {
+        return RestAnswer::Rest {
+            days: Days::Always,
+            mark: Mark::Unmarked,
+            end: place,
+        };
+    }
+    let fourth = cue_fields::read_due(book, place, Due::Dates);
+    let FieldAnswer::Body {
+        start: dates,
+        end: dates_end,
+    } = fourth
+    else {
+        return RestAnswer::Refused(cue_fields::field_number(fourth));
+    };
+    let fifth = cue_fields::read_due(book, dates_end, Due::House);
+    let FieldAnswer::Body { start: house, end } = fifth else {
+        return RestAnswer::Refused(cue_fields::field_number(fifth));
+    };
+    let days = days_in(&book[dates..dates_end]);
+    let mark = mark_in(&book[house..end]);
+    RestAnswer::Rest { days, mark, end }
+}
+
+// The refusal's number of the answer for what follows a title, 0 for none.
+fn rest_number(answer: RestAnswer) -> u32
+    ensures { λ r. ⌜ r ≡ restNumber answer ⌝ }
+{
+    let RestAnswer::Refused(number) = answer else {
+        return 0;
+    };
+    number
+}
+
 // Reads the cue at a place of a book: its fields in their order, the first refusal leaving at the spot.
 pub fn read_cue(book: &[u8], place: usize) -> CueAnswer
     ensures { λ r. ⌜ CueRead (now (book .entry)) place r ⌝ }
@@ -125,21 +173,11 @@ pub fn read_cue(book: &[u8], place: usize) -> CueAnswer
     else {
         return CueAnswer::Refused(cue_fields::field_number(third));
     };
-    let fourth = cue_fields::read_due(book, title_end, Due::Dates);
-    let FieldAnswer::Body {
-        start: dates,
-        end: dates_end,
-    } = fourth
-    else {
-        return CueAnswer::Refused(cue_fields::field_number(fourth));
-    };
-    let fifth = cue_fields::read_due(book, dates_end, Due::House);
-    let FieldAnswer::Body { start: house, end } = fifth else {
-        return CueAnswer::Refused(cue_fields::field_number(fifth));
+    let rest = read_rest(book, title_end);
+    let RestAnswer::Rest { days, mark, end } = rest else {
+        return CueAnswer::Refused(rest_number(rest));
     };
     let ordinal = cue_fields::number_at(&book[body..ordinal_end]) as u32;
-    let days = days_in(&book[dates..dates_end]);
-    let mark = mark_in(&book[house..end]);
     CueAnswer::Cue {
         phrase,
         phrase_end,

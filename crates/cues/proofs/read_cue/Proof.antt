@@ -1,13 +1,13 @@
 -- `cues::read_cue` meets its contract: each field's answer is taken apart, and a refusal leaves with its number. Assumes nothing.
 use borrow.Author.Needs.{needs}
-use mathlib.Core.Path.{_≡_, refl, sym, _∙_}
+use mathlib.Core.Path.{_≡_, refl, sym, subst, _∙_}
 use Prim.Native.Nat.{ℕ, _≤_}
 use native.Mathlib.Omega.{arith}
 use mathlib.Core.List.{List, [], _∷_}
 use lib.ListN.{length, drop}
 use denote.Enum.Declared as declared
 use Rattle.cue_fields.specs.declared.Due.{Due}
-use Rattle.cue_fields.specs.declared.Due.the-variants.{Phrase, Ordinal, Title, Dates, House}
+use Rattle.cue_fields.specs.declared.Due.the-variants.{Phrase, Ordinal, Title}
 use Rattle.cue_fields.specs.declared.FieldAnswer.{FieldAnswer}
 use Rattle.cue_fields.proofs.FieldAnswer as answers
 use Rattle.cue_fields.specs.Field.{fieldNumber}
@@ -17,11 +17,13 @@ use Rattle.cue_fields.proofs.Steps.{due-stands, DueAt, due-at, due-some, step-r
 use Rattle.cues.specs.declared.CueAnswer.the-variants as answer
 use Rattle.cues.specs.Reading.{cueRefusal}
 use Rattle.cues.specs.Places.{CueRead}
+use Rattle.cues.specs.Rest.{tailForm, RestIs, RestRead}
+use Rattle.cues.proofs.Rest.{told-refused}
 use Rattle.cues.proofs.Cues.{cue-refused, cue-read}
 use Rattle.cues.proofs.read_cue.Statement.{statement}
 use Rattle.cues.proofs.read_cue.Tie as tie
 
--- the places of this proof: where the call came in, and where the phrase, the ordinal, the title and the dates were read
+-- the places of this proof: where the call came in, and where the phrase, the ordinal and the title were read
 abbrev start : tie.After-known-told → tie.Start
 start k = k .before .before .before .before .before
 
@@ -33,9 +35,6 @@ ordinal-read k = k .before .before .before .before
 
 abbrev title-read : tie.After-known-told4 → tie.After-known-told3
 title-read k = k .before .before .before .before
-
-abbrev dates-read : tie.After-known-told5 → tie.After-known-told4
-dates-read k = k .before .before .before .before
 
 -- the fields stand there
 first-at : (k : tie.After-known-told) → let a = start k .args in DueAt (a .book .now) (a .place) Phrase (k .before .first .given .0 .0) (k .before .first .given .0 .1 .0)
@@ -49,44 +48,29 @@ third-at : (k : tie.After-known-told3) → let o = ordinal-read k in
     DueAt (start (phrase-read o) .args .book .now) (o .before .second .given .0 .1 .0) Title (k .before .third .given .0 .0) (k .before .third .given .0 .1 .0)
 third-at k = due-at (due-stands refl (k .before .before .before .read-title .ensures)) (k .before .third .given .1)
 
-fourth-at : (k : tie.After-known-told4) → let t = title-read k in
-    DueAt (start (phrase-read (ordinal-read t)) .args .book .now) (t .before .third .given .0 .1 .0) Dates (k .before .fourth .given .0 .0) (k .before .fourth .given .0 .1 .0)
-fourth-at k = due-at (k .before .before .before .read-due .ensures) (k .before .fourth .given .1)
+-- and what follows the title is read
+rest-at : (k : tie.After-known-told4) → let g = k .before .rest .given .0 in let t = title-read k in
+    RestIs (start (phrase-read (ordinal-read t)) .args .book .now) (t .before .third .given .0 .1 .0) (g .0) (g .1 .0) (g .1 .1 .0)
+rest-at k = subst (RestRead _ _) (k .before .rest .given .1) (k .before .before .before .read-rest .ensures)
 
-fifth-at : (k : tie.After-known-told5) → let d = dates-read k in
-    DueAt (start (phrase-read (ordinal-read (title-read d))) .args .book .now) (d .before .fourth .given .0 .1 .0) House (k .before .fifth .given .0 .0) (k .before .fifth .given .0 .1 .0)
-fifth-at k = due-at (k .before .before .before .read-due2 .ensures) (k .before .fifth .given .1)
-
--- ordinal, dates and mark lie in the book
-ordinal-inside : (k : tie.After-known-told5) → let o = ordinal-read (title-read (dates-read k)) in
+-- the ordinal lies in the book, and the title ends in it
+ordinal-inside : (k : tie.After-known-told4) → let o = ordinal-read (title-read k) in
     (o .before .second .given .0 .0 ≤ o .before .second .given .0 .1 .0) × (o .before .second .given .0 .1 .0 ≤ length (start (phrase-read o) .args .book .now))
-ordinal-inside k = let o = second-at (ordinal-read (title-read (dates-read k))) in (o .ordered, o .inside refl)
-
-dates-inside : (k : tie.After-known-told4) → let o = ordinal-read (title-read k) in
-    (k .before .fourth .given .0 .0 ≤ k .before .fourth .given .0 .1 .0) × (k .before .fourth .given .0 .1 .0 ≤ length (start (phrase-read o) .args .book .now))
-dates-inside k = let d = fourth-at k in (d .ordered, d .no-further (third-at (title-read k) .inside refl))
-
-mark-inside : (k : tie.After-known-told5) → let o = ordinal-read (title-read (dates-read k)) in
-    (k .before .fifth .given .0 .0 ≤ k .before .fifth .given .0 .1 .0) × (k .before .fifth .given .0 .1 .0 ≤ length (start (phrase-read o) .args .book .now))
-mark-inside k = let h = fifth-at k in (h .ordered, h .no-further (dates-inside (dates-read k) .1))
+ordinal-inside k = let o = second-at (ordinal-read (title-read k)) in (o .ordered, o .inside refl)
 
 -- the cue's refusal is that of the fields after those read
 after-first : (k : tie.After-known-told) → let a = start k .args in
-    cueRefusal (drop (a .place) (a .book .now)) ≡ formRefusal (Ordinal ∷ Title ∷ Dates ∷ House ∷ []) (drop (k .before .first .given .0 .1 .0) (a .book .now))
+    cueRefusal (drop (a .place) (a .book .now)) ≡ formRefusal (Ordinal ∷ Title ∷ tailForm) (drop (k .before .first .given .0 .1 .0) (a .book .now))
 unfolding cueRefusal
-after-first k = step-refusal (first-at k) (Ordinal ∷ Title ∷ Dates ∷ House ∷ [])
+after-first k = step-refusal (first-at k) (Ordinal ∷ Title ∷ tailForm)
 
 after-second : (k : tie.After-known-told2) → let a = start (phrase-read k) .args in
-    cueRefusal (drop (a .place) (a .book .now)) ≡ formRefusal (Title ∷ Dates ∷ House ∷ []) (drop (k .before .second .given .0 .1 .0) (a .book .now))
-after-second k = after-first (phrase-read k) ∙ step-refusal (second-at k) (Title ∷ Dates ∷ House ∷ [])
+    cueRefusal (drop (a .place) (a .book .now)) ≡ formRefusal (Title ∷ tailForm) (drop (k .before .second .given .0 .1 .0) (a .book .now))
+after-second k = after-first (phrase-read k) ∙ step-refusal (second-at k) (Title ∷ tailForm)
 
 after-third : (k : tie.After-known-told3) → let a = start (phrase-read (ordinal-read k)) .args in
-    cueRefusal (drop (a .place) (a .book .now)) ≡ formRefusal (Dates ∷ House ∷ []) (drop (k .before .third .given .0 .1 .0) (a .book .now))
-after-third k = after-second (ordinal-read k) ∙ step-refusal (third-at k) (Dates ∷ House ∷ [])
-
-after-fourth : (k : tie.After-known-told4) → let a = start (phrase-read (ordinal-read (title-read k))) .args in
-    cueRefusal (drop (a .place) (a .book .now)) ≡ formRefusal (House ∷ []) (drop (k .before .fourth .given .0 .1 .0) (a .book .now))
-after-fourth k = after-third (title-read k) ∙ step-refusal (fourth-at k) (House ∷ [])
+    cueRefusal (drop (a .place) (a .book .now)) ≡ formRefusal tailForm (drop (k .before .third .given .0 .1 .0) (a .book .now))
+after-third k = after-second (ordinal-read k) ∙ step-refusal (third-at k) tailForm
 
 -- a field that was refused, after those read
 refused : {book : List ℕ} {at place : ℕ} {due : Due} {r : FieldAnswer} {number : ℕ} (dues : List Due) → cueRefusal (drop place book) ≡ formRefusal (due ∷ dues) (drop at book) → DueRead book at due r
@@ -109,7 +93,7 @@ field-number-requires c κs = search needs
 
 returns : tie.Need-returns
 unfolding cueRefusal
-returns c = refused (Ordinal ∷ Title ∷ Dates ∷ House ∷ []) refl (due-stands refl (c .before .before .before .read-phrase .ensures)) (c .before .before .match .keys2) (c .field-number .ensures)
+returns c = refused (Ordinal ∷ Title ∷ tailForm) refl (due-stands refl (c .before .before .before .read-phrase .ensures)) (c .before .before .match .keys2) (c .field-number .ensures)
 
 read-ordinal-requires : tie.Need-read-ordinal-requires
 read-ordinal-requires c κs = search needs
@@ -124,7 +108,7 @@ field-number-requires-2 : tie.Need-field-number-requires-2
 field-number-requires-2 c κs = search needs
 
 returns-2 : tie.Need-returns-2
-returns-2 c = let r = c .before .before .before in refused (Title ∷ Dates ∷ House ∷ []) (after-first (r .before)) (due-stands refl (r .read-ordinal .ensures)) (c .before .before .match2 .keys2) (c .field-number2 .ensures)
+returns-2 c = let r = c .before .before .before in refused (Title ∷ tailForm) (after-first (r .before)) (due-stands refl (r .read-ordinal .ensures)) (c .before .before .match2 .keys2) (c .field-number2 .ensures)
 
 read-title-requires : tie.Need-read-title-requires
 read-title-requires c κs = search needs
@@ -139,37 +123,25 @@ field-number-requires-3 : tie.Need-field-number-requires-3
 field-number-requires-3 c κs = search needs
 
 returns-3 : tie.Need-returns-3
-returns-3 c = let r = c .before .before .before in refused (Dates ∷ House ∷ []) (after-second (r .before)) (due-stands refl (r .read-title .ensures)) (c .before .before .match3 .keys2) (c .field-number3 .ensures)
+returns-3 c = let r = c .before .before .before in refused tailForm (after-second (r .before)) (due-stands refl (r .read-title .ensures)) (c .before .before .match3 .keys2) (c .field-number3 .ensures)
 
-read-due-requires : tie.Need-read-due-requires
-read-due-requires c κs = search needs
+read-rest-requires : tie.Need-read-rest-requires
+read-rest-requires c κs = third-at c .inside refl
 
-enum-known-fourth : tie.Need-enum-known-fourth
-enum-known-fourth c = search needs
+enum-known-rest : tie.Need-enum-known-rest
+enum-known-rest c = search needs
 
 enum-told-4 : tie.Need-enum-told-4
 enum-told-4 c = search needs
 
-field-number-requires-4 : tie.Need-field-number-requires-4
-field-number-requires-4 c κs = search needs
+rest-number-requires : tie.Need-rest-number-requires
+rest-number-requires c κs = search needs
 
 returns-4 : tie.Need-returns-4
-returns-4 c = let r = c .before .before .before in refused (House ∷ []) (after-third (r .before)) (r .read-due .ensures) (c .before .before .match4 .keys2) (c .field-number4 .ensures)
-
-read-due-requires-2 : tie.Need-read-due-requires-2
-read-due-requires-2 c κs = search needs
-
-enum-known-fifth : tie.Need-enum-known-fifth
-enum-known-fifth c = search needs
-
-enum-told-5 : tie.Need-enum-told-5
-enum-told-5 c = search needs
-
-field-number-requires-5 : tie.Need-field-number-requires-5
-field-number-requires-5 c κs = search needs
-
-returns-5 : tie.Need-returns-5
-returns-5 c = let r = c .before .before .before in refused [] (after-fourth (r .before)) (r .read-due2 .ensures) (c .before .before .match5 .keys2) (c .field-number5 .ensures)
+returns-4 c =
+    let r = c .before .before .before in
+    let f = told-refused (r .read-rest .result) (r .read-rest .ensures) (c .before .before .match4 .keys2) in
+    rw (c .rest-number .ensures) (cue-refused _ _ (after-third (r .before) ∙ f .is) (f .some))
 
 sub-number-at : tie.Need-sub-number-at
 sub-number-at c = omega (arith, ordinal-inside c .0)
@@ -186,39 +158,12 @@ number-at-requires c κs = search needs
 cast-ordinal : tie.Need-cast-ordinal
 cast-ordinal c = search needs
 
-sub-days-in : tie.Need-sub-days-in
-sub-days-in c = omega (arith, dates-inside (dates-read (c .before .before)) .0)
-
-part-days-in-start : tie.Need-part-days-in-start
-part-days-in-start c = omega (arith, dates-inside (dates-read (c .before .before)) .0)
-
-part-days-in-end : tie.Need-part-days-in-end
-part-days-in-end c = omega (arith, dates-inside (dates-read (c .before .before)) .1)
-
-days-in-requires : tie.Need-days-in-requires
-days-in-requires c κs = search needs
-
-sub-mark-in : tie.Need-sub-mark-in
-sub-mark-in c = omega (arith, mark-inside (c .before .before .before .before) .0)
-
-part-mark-in-start : tie.Need-part-mark-in-start
-part-mark-in-start c = omega (arith, mark-inside (c .before .before .before .before) .0)
-
-part-mark-in-end : tie.Need-part-mark-in-end
-part-mark-in-end c = omega (arith, mark-inside (c .before .before .before .before) .1)
-
-mark-in-requires : tie.Need-mark-in-requires
-mark-in-requires c κs = search needs
-
-returns-6 : tie.Need-returns-6
-returns-6 c =
-    let m = c .before .before in
-    let n = m .before .before in
-    let k = n .before .before in
-    let d = dates-read k in
-    let t = title-read d in
+returns-5 : tie.Need-returns-5
+returns-5 c =
+    let k = c .before .before in
+    let t = title-read k in
     let o = ordinal-read t in
-    cue-read (first-at (phrase-read o)) (second-at o) (third-at t) (fourth-at d) (fifth-at k) (n .number-at .ensures .0) (m .days-in .ensures) (c .mark-in .ensures)
+    cue-read (first-at (phrase-read o)) (second-at o) (third-at t) (rest-at k) (c .number-at .ensures .0)
 
 pub read-cue-spec : {M : Type 1} → statement M
 read-cue-spec =
@@ -239,27 +184,14 @@ read-cue-spec =
     enum-told-3
     field-number-requires-3
     returns-3
-    read-due-requires
-    enum-known-fourth
+    read-rest-requires
+    enum-known-rest
     enum-told-4
-    field-number-requires-4
+    rest-number-requires
     returns-4
-    read-due-requires-2
-    enum-known-fifth
-    enum-told-5
-    field-number-requires-5
-    returns-5
     sub-number-at
     part-number-at-start
     part-number-at-end
     number-at-requires
     cast-ordinal
-    sub-days-in
-    part-days-in-start
-    part-days-in-end
-    days-in-requires
-    sub-mark-in
-    part-mark-in-start
-    part-mark-in-end
-    mark-in-requires
-    returns-6)
+    returns-5)
