@@ -7,11 +7,16 @@ use native.Mathlib.Omega.{arith}
 use mathlib.Core.List.{List, [], _∷_, _++_, append-assoc}
 use lib.ListN.{length, take, drop, length-append, length-drop}
 use lib.Seq.{take-append-seam}
+use mathlib.Core.Bool.{true, false, cond}
+use lib.Dec.{eqb}
 use borrow.Author.Tests.{eq-eqb}
+use Rattle.matching.proofs.CaseAnalysis.{by-test}
 use Rattle.pieces.specs.Pieces.{joined}
 use Rattle.cue_fields.specs.Form.{Bytes}
 use Rattle.cue_fields.proofs.Form.{bytes-drop}
 use Rattle.cues.specs.declared.CueAnswer.{CueAnswer}
+use Rattle.cues.specs.declared.Mark.{Mark}
+use Rattle.cues.specs.declared.Mark.the-variants.{Unmarked, Open, HouseOnly}
 use Rattle.cues.specs.Cue.{Cue, cueBytes, Valid}
 use Rattle.cues.specs.Reading.{afterCue, cueSize, Apart}
 use Rattle.cues.specs.Places.{cueEnd, cuesMeant, CueRead}
@@ -22,7 +27,7 @@ use Rattle.cue_book.specs.Book.{bookBytes, AllValid}
 use Rattle.cue_book.specs.Reading.{cues, followed, readUpTo, readBook, refusalOf, cuesIn}
 use Rattle.cue_book.specs.Places.{cuePlace}
 use Rattle.cue_book.proofs.Books.{read-end, read-next, begins, ends, accepted-book, place-next, cue-there}
-use Rattle.cue_writer.specs.Writing.{writeRefusal}
+use Rattle.cue_writer.specs.Writing.{markGiven, writeRefusal}
 use Rattle.cue_writer.specs.Inverse.{WroteCue, Assembled, Accepted}
 use Rattle.cue_writer.proofs.Writing.{fitting}
 
@@ -122,6 +127,19 @@ wrote-bytes {c} {bytes} w =
     let number : w .answer .number ≡ length (cueBytes c) = ap (λ (a : Answer). a .number) (w .wrote .answer) ∙ rw on in
     let left : w .buffer′ ≡ cueBytes c ++ drop (length (cueBytes c)) (w .buffer) = w .wrote .left ∙ rw on in
     (w .is ∙ ap₂ (λ (n : ℕ) (l : List ℕ). take n l) number left ∙ take-append-seam (cueBytes c) (drop (length (cueBytes c)) (w .buffer)), fitting c (w .house) (length (w .buffer)) none .valid)
+
+-- no cue that was written carries an explicit 0, though a book may
+pub never-explicit : {c : Cue} {bytes : List ℕ} → WroteCue c bytes → c .mark ≡ Open → ⊥
+unfolding markGiven
+never-explicit w e = not-given (w .house) (sym (w .given) ∙ e)
+  where
+    told : Mark → ℕ
+    told Unmarked = 0
+    told Open = 1
+    told HouseOnly = 2
+
+    not-given : (house : ℕ) → markGiven house ≡ Open → ⊥
+    not-given house = by-test (λ t. cond t Unmarked HouseOnly ≡ Open → ⊥) (eqb house 0) (λ _ e. omega (arith, ap told e)) (λ _ e. omega (arith, ap told e))
 
 -- so a book put together from written cues is their bytes
 pub assembled-bytes : (cs : List Cue) (pieces : List (List ℕ)) → Assembled cs pieces → (joined pieces ≡ bookBytes cs) × AllValid cs

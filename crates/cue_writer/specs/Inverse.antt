@@ -6,15 +6,16 @@ use lib.ListN.{length, take}
 use Rattle.cues.specs.Cue.{Cue}
 use Rattle.matching.specs.declared.Answer.{Answer}
 use Rattle.cue_book.specs.Book.{bookBytes, AllValid}
-use Rattle.cue_writer.specs.Writing.{Written}
+use Rattle.cue_writer.specs.Writing.{markGiven, Written}
 
--- these are the bytes that writing the cue put at the start of some buffer
+-- these are the bytes that writing the cue, which was told to be open or for the house only, put at the start of some buffer
 pub record WroteCue (c : Cue) (bytes : List ℕ) : Type 0 where
   pub house : ℕ
   pub buffer : List ℕ
   pub buffer′ : List ℕ
   pub answer : Answer
   pub wrote : Written c house buffer answer buffer′
+  pub given : c .mark ≡ markGiven house
   pub accepted : answer .refusal ≡ 0
   pub is : bytes ≡ take (answer .number) buffer′
 
