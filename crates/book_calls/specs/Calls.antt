@@ -29,13 +29,13 @@ fieldFor role answer = cond (mayAll role) (fieldPassed answer) (fieldPassed (fie
 abbrev pub cueFor : ℕ → CueAnswer → PlainCue
 cueFor role answer = cond (mayAll role) (cuePassed answer) (cuePassed (cue.Refused notAllowed))
 
--- what is given back where nothing else is: 19 and 0
-abbrev pub turnedAway : Answer
-turnedAway = record { refusal = notAllowed; number = 0 }
+-- what is given back to a role that may not do an act: 19 and 0
+abbrev pub roleRefused : Answer
+roleRefused = record { refusal = notAllowed; number = 0 }
 
 -- a book read
 abbrev pub bookFor : ℕ → List ℕ → Answer
-bookFor role book = cond (mayAll role) (bookAnswer book) turnedAway
+bookFor role book = cond (mayAll role) (bookAnswer book) roleRefused
 
 -- ---- a title
 
@@ -62,4 +62,4 @@ pub record TitleShownFor (role : ℕ) (book : RefT (List ℕ)) (index : ℕ) (r 
 -- an act that gives an answer and writes into a buffer: where the role may do it, this is promised; and where it may not, 19 and 0 are given back and the buffer is as before
 pub record Allowed (may : Bool) (Promised : Type 0) (buffer : List ℕ) (r : Answer) (buffer′ : List ℕ) : Type 0 where
   pub done : may ≡ true → Promised
-  pub away : may ≡ false → (r ≡ turnedAway) × (buffer′ ≡ buffer)
+  pub refused : may ≡ false → (r ≡ roleRefused) × (buffer′ ≡ buffer)

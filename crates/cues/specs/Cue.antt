@@ -14,8 +14,8 @@ use Rattle.cue_fields.specs.Form.{formBytes}
 use Rattle.cues.specs.declared.Days.{Days}
 use Rattle.cues.specs.declared.Days.the-variants.{Always, Within}
 use Rattle.cues.specs.declared.Mark.{Mark}
-use Rattle.cues.specs.declared.Choice.{Choice}
 use Rattle.cues.specs.declared.Mark.the-variants.{Unmarked, Open, HouseOnly}
+use Rattle.cues.specs.declared.Choice.{Choice}
 
 -- a cue: the phrase, which of its occurrences is meant (1 is the first), the title to show, the days on which it plays, always or from a first to a last one, and its mark: none, open, or house only
 pub record Cue : Type 0 where

@@ -1,10 +1,8 @@
 -- What reading a cue asks of reading the fields behind its title. Not part of any public promise.
 use mathlib.Core.Path.{_≡_}
 use Prim.Native.Nat.{ℕ, _+_}
-use mathlib.Core.Bool.{cond}
 use mathlib.Core.List.{List, [], _∷_}
 use lib.ListN.{getD, drop}
-use lib.Dec.{eqb}
 use Rattle.cue_fields.specs.declared.Due.{Due}
 use Rattle.cue_fields.specs.declared.Due.the-variants.{Dates, House}
 use Rattle.cue_fields.specs.Form.{formRefusal, formSize, formBodies}

@@ -10,7 +10,7 @@ may-retitle-requires : tie.Need-may-retitle-requires
 may-retitle-requires c κs = search needs
 
 returns : tie.Need-returns
-returns c = let no = may-not (c .before .may-retitle .ensures) (c .if1 .taken) in record { done = λ yes. absurd (false≢true (sym no ∙ yes)); away = λ _. (refl, refl) }
+returns c = let no = may-not (c .before .may-retitle .ensures) (c .if1 .taken) in record { done = λ yes. absurd (false≢true (sym no ∙ yes)); refused = λ _. (refl, refl) }
 
 retitle-requires : tie.Need-retitle-requires
 retitle-requires c κs = search needs
@@ -23,7 +23,7 @@ returns-2 c =
     let w = c .before .before in
     let e = w .before .before in
     let yes = may-do (e .before .may-retitle .ensures) (e .if1 .left) in
-    record { done = λ _. w .retitle .ensures; away = λ no. absurd (false≢true (sym no ∙ yes)) }
+    record { done = λ _. w .retitle .ensures; refused = λ no. absurd (false≢true (sym no ∙ yes)) }
 
 pub retitle-spec : {M : Type 1} → statement M
 retitle-spec = tie.close (tie.spec may-retitle-requires returns retitle-requires same-length returns-2)

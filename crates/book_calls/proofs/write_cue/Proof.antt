@@ -10,7 +10,7 @@ may-all-requires : tie.Need-may-all-requires
 may-all-requires c κs = search needs
 
 returns : tie.Need-returns
-returns c = let no = may-not (c .before .may-all .ensures) (c .if1 .taken) in record { done = λ yes. absurd (false≢true (sym no ∙ yes)); away = λ _. (refl, refl) }
+returns c = let no = may-not (c .before .may-all .ensures) (c .if1 .taken) in record { done = λ yes. absurd (false≢true (sym no ∙ yes)); refused = λ _. (refl, refl) }
 
 write-cue-requires : tie.Need-write-cue-requires
 write-cue-requires c κs = search needs
@@ -23,7 +23,7 @@ returns-2 c =
     let w = c .before .before in
     let e = w .before .before in
     let yes = may-do (e .before .may-all .ensures) (e .if1 .left) in
-    record { done = λ _. w .write-cue .ensures; away = λ no. absurd (false≢true (sym no ∙ yes)) }
+    record { done = λ _. w .write-cue .ensures; refused = λ no. absurd (false≢true (sym no ∙ yes)) }
 
 pub write-cue-spec : {M : Type 1} → statement M
 write-cue-spec = tie.close (tie.spec may-all-requires returns write-cue-requires same-length returns-2)
