@@ -2,6 +2,8 @@
 // a lent scratch, so that states are numbered by depth; each then gets its bits, its fail link and, as far as the scratch goes, its row of next states.
 // It depends on `phrases` for the numbers of the phrases that end at a letter, on `tries` for what the table's entries mean, on `fold` for the phrases' letters, on `tables` to clear the scratch, and on
 // `matching` for case analysis.
+#![tactic(auto)]
+
 ghost use Rattle.std.specs.Prelude.{◌≡◌, true, false, List, [], ◌∷◌, map, ℕ, suc, ◌+◌, ◌-◌, ◌*◌, ◌^◌, ◌<◌, ◌≤◌, length, get_or, take, drop, set, replicate};
 ghost use Rattle.std.proofs.lemmas.List.Edits.{sets};
 ghost use Rattle.fold.specs.Fold.{fold_on};

@@ -1,6 +1,8 @@
 // The calls on a cue book or a cue, each with the role of who calls (document 02, (xiv)): a role that may not do an act is refused with 19 and zeros, ahead of every other test, and all is as before. What a call
 // does for a role that may is the promise of the crate that does it.
 // It depends on `roles` for what each role may do, on `plain`, `cue_book` and `retitle` for the acts, on `cue_fields`, `cues` and `cue_writer` for what they promise, and on `matching` for the answer that a call gives.
+#![tactic(auto)]
+
 ghost use Rattle.std.specs.Prelude.{◌≡◌};
 ghost use Rattle.roles.specs.Roles.{may_all, may_retitle};
 ghost use Rattle.cues.specs.Cue.{cue_with};

@@ -1,6 +1,8 @@
 // The tables by borders: the makers of KMP's and of MAX_Shift, which write only their own entries into a lent table of 16-bit numbers; and the move by the longest proper border, which has none.
 // It depends on `tables`, on `letter_tables` for the widest gap, and on `matching` for what an occurrence and a move are. Engines know a table by its rule alone (specs/), and prove their
 // skips from the laws that stand beside it (proofs/Moves.antt). A table too short, or a pattern so long that an entry could pass 16 bits, leaves everything as before.
+#![tactic(auto)]
+
 ghost use Rattle.std.specs.Prelude.{◌≡◌};
 ghost use Rattle.letter_tables.specs.Gaps.{gap_found};
 ghost use Rattle.border_tables.specs.Kmp.{kmp_made};

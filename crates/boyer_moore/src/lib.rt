@@ -1,5 +1,7 @@
 // Boyer-Moore's engine (source document 002, Algorithm 5): last letter to first; on a mismatch the text pointer moves by the larger of DELTA1 and DELTA2, after an occurrence the pattern moves by
 // m less its longest proper border. It depends on `matching`, on `tables`, and on `letter_tables`, `border_tables` and `suffix_tables` for DELTA1, the border and DELTA2.
+#![tactic(auto)]
+
 ghost use Rattle.std.specs.Prelude.{◌≡◌, ◌+◌, ◌-◌, ◌≤◌, ◌<◌, length};
 ghost use Rattle.matching.specs.Received.{received};
 ghost use Rattle.matching.specs.Find.{Found};

@@ -1,6 +1,8 @@
 // The calendar (document 02, (viii)): the days of 2000 to 2099 by the Gregorian calendar, numbered from 1 January 2000, which is day 0, to 36,524; from a date to its number, and back.
 // Its other functions make the tests of a day and of a first and a last day, for whoever takes such numbers in. A refusal is 16, with zeros.
 // It depends on `matching` alone: on the answer with one number, its tables of refusals and its case analysis.
+#![tactic(auto)]
+
 ghost use Rattle.std.specs.Prelude.{◌≡◌, ◌-◌, ◌≤◌, ◌<◌};
 ghost use Rattle.calendar.specs.Calendar.{is_leap, year_length, month_length, ymd, in_calendar, years_days, months_days, day_refusal, days_refusal, day_answer, date_answer};
 ghost use Rattle.calendar.specs.Found.{YearAt, MonthAt};

@@ -1,6 +1,8 @@
 // This crate reads whole cue books, and shows a title or finds where it stands (document 01, "Cue book, folding, lines"; document 02, (viii) and (xiv)).
 // It depends on `cues` for one cue, on `cue_fields` for the size of a cue's fields, and on `matching` for the answer that a call gives, what of a list passes a test, case analysis and parts of a slice.
 // proofs/Books.antt has the laws of a book read cue by cue; `cue_writer` has those that a book written reads back.
+#![tactic(auto)]
+
 ghost use Rattle.std.specs.Prelude.{◌≡◌, ◌≤◌, length, take};
 ghost use Rattle.cue_book.specs.Places.{book_answer, chosen_answer, title_read, TitlePlaced, TitleShown};
 ghost use Rattle.cue_book.specs.Walking.{Walked};

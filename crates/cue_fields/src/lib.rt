@@ -1,6 +1,8 @@
 // This crate reads a field of a cue book (document 01, "Cue book, folding, lines"; document 02, (viii) and (xiv)): a tag, a length and a body, tested in the document's order.
 // Its definitions also say what fields in the order of a list are (specs/Form.antt), and its laws that reading and writing such fields are inverse (proofs/Form.antt).
 // It depends on `matching` for its tables of refusals, its parts of a slice and its case analysis, and on `calendar` for the days that there are.
+#![tactic(auto)]
+
 ghost use Rattle.std.specs.Prelude.{◌≡◌, ◌≤◌, drop, ◌||◌, eqb};
 ghost use Rattle.matching.specs.Refusals.{first_met};
 ghost use Rattle.cue_fields.specs.declared.Due.TheVariants.{Phrase, Ordinal, Title, Dates, House};

@@ -1,6 +1,8 @@
 // This crate writes a cue, with its dates where it has any and its mark where it is for the house only (document 01, "Cue book, folding, lines"; document 02, (viii) and (xiv)).
 // It depends on `cues` and `cue_book` for the format, on `cue_fields` for a field's bytes, on `calendar` for the days that there are, on `pieces` for laying the fields out, and on `matching` for its tables of refusals and the answer that a call gives.
 // Demand 2 is carried by proofs/Inverse.antt: what is written reads back (`written-reads`), and what is accepted was so written (`accepted-written`).
+#![tactic(auto)]
+
 ghost use Rattle.std.specs.Prelude.{◌≡◌, ◌≤◌, length};
 ghost use Rattle.pieces.specs.Pieces.{Laid, put_all};
 ghost use Rattle.cue_fields.specs.declared.Due.TheVariants.{Dates, House};

@@ -1,6 +1,8 @@
 // This crate reads one cue at a place of a book (document 01, "Cue book, folding, lines"; document 02, (viii) and (xiv)), and says what a cue's value and its bytes are, when it plays, and who sees it.
 // It depends on `cue_fields` for a field and for fields in the order of a list, on `calendar` for the days that there are, on `roles` for who is a guest, and on `matching` for its tables of refusals and its case analysis.
 // proofs/Values.antt has the laws that a cue written reads back, and that a cue read was so written; `cue_book` reads a whole book, and `cue_writer` writes a cue.
+#![tactic(auto)]
+
 ghost use Rattle.std.specs.Prelude.{◌≡◌, ◌≤◌, length};
 ghost use Rattle.cues.specs.Cue.{days_from, mark_from, days_hold, sees, is_chosen};
 ghost use Rattle.cues.specs.Places.{cue_number, CueRead};

@@ -1,6 +1,8 @@
 // A cut of a text (document 02, (xiii)): the new text, the list that a call is given, and the refusals of a call, in their order.
 // It depends on `matching` for the refusals of phrase and text. `late_cuts` makes the list for the new text.
 // No number overflows, whatever the lengths and the stretch: each test comes before the sums that it makes small.
+#![tactic(auto)]
+
 ghost use Rattle.std.specs.Prelude.{◌≡◌, ◌&&◌, ◌≤◌};
 ghost use Rattle.cuts.specs.Cuts.{cut, rises, all_fit, relist_refusal};
 

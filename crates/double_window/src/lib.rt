@@ -1,6 +1,8 @@
 // The double window engine: move by two text letters, u under the window's end and v one window on; where that move is 0, which is where u is the pattern's last letter,
 // compare letters m - 1 down to 1 and move by Horspool's entry. It depends on `matching`, on `tables` for what is known of a table in the scratch, and on `letter_tables` for
 // Horspool's entries and the rule of the move by two letters, which is read off them.
+#![tactic(auto)]
+
 ghost use Rattle.std.specs.Prelude.{◌≡◌, ◌+◌, ◌-◌, ◌≤◌, length, get_or};
 ghost use Rattle.matching.specs.Find.{Found};
 ghost use Rattle.tables.specs.Tables.{Entries};

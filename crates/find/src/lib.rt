@@ -1,5 +1,7 @@
 // The method number: it picks the engine behind it, and refuses a number that has none. It depends on the engines, of which callers need nothing, and on `matching` for a
 // finding.
+#![tactic(auto)]
+
 ghost use Rattle.find.specs.Find.{Answered};
 
 use matching::Finding;

@@ -1,6 +1,8 @@
 // What the finder program of document 01 prints for a phrase and a text: one line an engine, in the order of `rows`, or one refusal.
 // It depends on `matching` for the refusals, on `find` and the engines for the finds, and on `finder_lines` and `pieces` for every byte of the lines.
 // No answer is longer than 262,144 bytes (proofs/Fits.antt). Where the phrase and the text come from is not known here: `finder_output` takes the input apart.
+#![tactic(auto)]
+
 ghost use Rattle.std.specs.Prelude.{◌≡◌, ◌≤◌, ◌<◌, length};
 ghost use Rattle.matching.specs.Find.{refusal};
 ghost use Rattle.find.specs.Find.{engine_of};

@@ -1,5 +1,7 @@
 // The layout of the finder's lines: numbers and whole lines, laid out one after another in a lent buffer.
 // It depends on `pieces`, by which a piece that does not fit is left out, whole, and on `matching` for case analysis.
+#![tactic(auto)]
+
 ghost use Rattle.pieces.specs.Pieces.{Laid, put, put_all};
 ghost use Rattle.finder_lines.specs.Lines.{field, fields, line_of, refused_line};
 

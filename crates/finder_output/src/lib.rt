@@ -2,6 +2,8 @@
 // It depends on `finder_answer` for the lines of the engines, on `finder_lines` and `pieces` for the refusal of a long input and for what is laid out, and on `matching` for case
 // analysis. The program `finder` only reads and writes.
 // The contract is an equation for every input (specs/Printed.antt); the output's size is shown to be enough (proofs/Fits.antt), so no line is ever left out.
+#![tactic(auto)]
+
 ghost use Rattle.std.specs.Prelude.{◌≡◌, length};
 ghost use Rattle.finder_output.specs.Printed.{phrase_in, Printed};
 

@@ -1,6 +1,8 @@
 // The Franek-Jennings-Smyth engine (source document 001, Algorithm 3): Sunday's move while the last letter differs, KMP's move once letters are equal.
 // It depends on `fjs_steps` for its steps and demand 3's bound on them, on `matching`, and on `tables`, `letter_tables` and `border_tables` for the entries. Beside `find` it offers
 // `find_moves`, which also lists by which rule the window moved.
+#![tactic(auto)]
+
 ghost use Rattle.std.specs.Prelude.{◌≡◌, cond, ◌+◌, ◌≤◌, length};
 ghost use Rattle.matching.specs.Received.{received};
 ghost use Rattle.matching.specs.Find.{refusal_of, Found};

@@ -1,6 +1,8 @@
 // Folding (document 01, "Folding (ISO 8859-1)"; document 02 (iii) and (iv)): small letters for capital ones, on page 1, which is ISO 8859-1, and on page 15, which is ISO 8859-15.
 // Page 1 is the formula that the operators' handbook lists; page 15 is a constant table (src/page_15.rt), shown to meet its rule at each entry (proofs/on_page_15).
 // It depends on `matching` for the answer that a call gives, the rule of a lent list, and case analysis, and on `tables` for the law of a table by a rule.
+#![tactic(auto)]
+
 mod page_15;
 
 ghost use Rattle.std.specs.Prelude.{◌≡◌, map, min, length};

@@ -1,5 +1,7 @@
 // Horspool's engine: last letter to first, then move by the entry of the text letter under the pattern's end. It depends on `matching`, and on `tables` and
 // `letter_tables` for the entries.
+#![tactic(auto)]
+
 ghost use Rattle.matching.specs.Find.{Found};
 ghost use Rattle.horspool.specs.Horspool.{horspool};
 

@@ -1,6 +1,8 @@
 // The improved FJS engine (source document 001, Algorithm 6): where nothing is carried it looks at the letter with the widest gap first, and moves on by MAX_Shift instead of KMP's shift.
 // It depends on `matching`, and on `tables`, `letter_tables` and `border_tables` for the gap and the entries.
 // FJS's bound of 3n - 2m comparisons is not promised of it: it looks at one letter of a window twice.
+#![tactic(auto)]
+
 ghost use Rattle.std.specs.Prelude.{◌≡◌, ◌+◌, ◌≤◌, length};
 ghost use Rattle.letter_tables.specs.Gaps.{widest_gap};
 ghost use Rattle.matching.specs.Received.{received};

@@ -1,6 +1,8 @@
 // The KMP engine: left to right, and after a mismatch or an occurrence at j go on from b[j]. It depends on `matching`, and on `tables` and `border_tables` for the entries.
 // Where nothing is carried the first letter has a test of its own: b[1] is 0, so a mismatch there moves by 1 with nothing carried.
 // Request (xii) is carried by proofs/Bound.antt (at most 2n - m comparisons) and proofs/Exact.antt (m - 1 letters a and a b in n letters a cost 2n - m).
+#![tactic(auto)]
+
 ghost use Rattle.std.specs.Prelude.{◌-◌, ◌*◌, ◌≤◌, length};
 ghost use Rattle.matching.specs.Find.{Found};
 ghost use Rattle.kmp.specs.Kmp.{kmp};

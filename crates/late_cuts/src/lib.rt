@@ -1,6 +1,8 @@
 // Late cuts (document 02, (xiii)): a stretch of the text is replaced, and a phrase's list for the new text is made from its list for the old one.
 // It depends on `cuts` for the refusals, on `matching` for the problem and the lent list, on `naive` for the fresh places, and on `pieces` to lay letters from both sides of a seam out together.
 // The new letters are searched where they lie, and only letters at a seam are copied: at most 1,023 from each of three parts.
+#![tactic(auto)]
+
 ghost use Rattle.std.specs.Prelude.{◌≡◌, true, ◌++◌, map, ◌+◌, ◌*◌, ◌-◌, ◌≤◌, ◌<◌, min, length, take, drop, pos, ◌-ℤ◌};
 ghost use Rattle.matching.specs.Occurrences.{occurrences};
 ghost use Rattle.matching.specs.Received.{received, received_from};

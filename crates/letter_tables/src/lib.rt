@@ -1,6 +1,8 @@
 // The tables by the last positions of letters, Sunday's, Horspool's and DELTA1: three makers, each writing only its own entries into a lent table of 16-bit numbers; and the widest gap.
 // It depends on `tables`, and on `matching` for what an occurrence and a move are. Engines know a table by its rule alone (specs/), and prove their skips from
 // the laws that stand beside it (proofs/Moves.antt). A table too short, or a pattern so long that an entry could pass 16 bits, leaves everything as before.
+#![tactic(auto)]
+
 ghost use Rattle.std.specs.Prelude.{◌≡◌, ◌++◌, ◌≤◌, length, drop};
 ghost use Rattle.letter_tables.specs.BadCharacter.{last_table, sunday_made, horspool_made, delta1_made};
 ghost use Rattle.letter_tables.specs.Gaps.{gap_found};

@@ -1,5 +1,7 @@
 // The line rule (document 02, (i)): which line of a text a place stands in, and at which column. A line ends at 10, at 13, or at the pair 13 10 taken as one ending.
 // It depends on `matching` for case analysis alone. The rule is one definition, `line_column`, and one function, so that another rule can take its place.
+#![tactic(auto)]
+
 ghost use Rattle.std.specs.Prelude.{◌≡◌, ◌+◌, ◌-◌, ◌≤◌, ◌<◌, length, get_or};
 ghost use Rattle.line_column.specs.LineColumn.{ends_line, ends_before, line_start, line_column_on, line_column_from};
 

@@ -1,6 +1,8 @@
 // The problem itself: what an occurrence is, what a lent list receives, how letters are compared, and what every engine promises.
 // It depends on no other crate. Engines depend on it: they cite its definitions (specs/) in their contracts and its laws (proofs/) in their proofs.
 // Document 01 calls a pattern a phrase and a position a place.
+#![tactic(auto)]
+
 ghost use Rattle.std.specs.Prelude.{◌≡◌, set};
 ghost use Rattle.matching.specs.Find.{refusal};
 ghost use Rattle.matching.specs.Letters.{compared_down};

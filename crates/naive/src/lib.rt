@@ -1,5 +1,7 @@
 // The naive engine: every start in turn, left to right, move 1. It depends on `matching`.
 // The first letter has a test of its own before the compare loop, since most windows end there.
+#![tactic(auto)]
+
 ghost use Rattle.matching.specs.Find.{Found};
 ghost use Rattle.naive.specs.Naive.{naive};
 

@@ -2,6 +2,8 @@
 // `resolver` computes what is defined here; the functions of this crate make the tests of a call before its book is read, of a group and of a cue. A change to a definition or a law is checked here, in a
 // second or two.
 // It depends on `matching` for the occurrences, what of a list passes a test and the table of refusals, on `roles` for who may resolve, on `calendar` for the days that there are, on `fold` for the pages that there are, on `line_column` for the line rule, on `cue_fields` and `cues` for a cue, and on `cue_book` for what a book reads as.
+#![tactic(auto)]
+
 ghost use Rattle.std.specs.Prelude.{◌≡◌};
 ghost use Rattle.outcome.specs.Outcome.{call_refusal_of, fitting, fault_of};
 

@@ -1,5 +1,7 @@
 // Laying pieces of bytes out one after another in a lent buffer, as the finder's lines and the cues of a book are. It depends on `matching` for case analysis alone.
 // A piece that does not fit into what is left of the buffer is left out, whole; a buffer that is long enough holds every piece (proofs/Laid.antt).
+#![tactic(auto)]
+
 ghost use Rattle.pieces.specs.Pieces.{Laid, put};
 
 // Puts a piece into the buffer from `at` on, if it fits there: where the next piece goes.

@@ -1,6 +1,8 @@
 // The cue book by plain numbers, for an interface that passes no enum: a field and a cue read at a place of a book, and a cue written.
 // It depends on `cue_fields` and `cues`, which read them, on `cue_writer`, which writes one, and on `matching` for the answer that a call gives and its case analysis.
 // A refused answer is 0 in all but its refusal; specs/Plain.antt has what passes for each answer.
+#![tactic(auto)]
+
 ghost use Rattle.std.specs.Prelude.{◌≡◌};
 ghost use Rattle.cues.specs.Cue.{cue_with};
 ghost use Rattle.cues.specs.Places.{cue_at};

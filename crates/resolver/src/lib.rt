@@ -2,6 +2,8 @@
 // resolved in groups, and each group walks the folded text once.
 // It depends on `cue_fields`, `cues` and `cue_book` for the cues, on `fold`, on `phrases` and `automaton` for the walk of a group, on `line_column` for the line rule, on `tables` to clear the scratch,
 // and on `matching` for the laws of lent lists and of occurrences.
+#![tactic(auto)]
+
 ghost use Rattle.std.specs.Prelude.{◌≡◌, ◌+◌, ◌≤◌, length, get_or, set};
 ghost use Rattle.line_column.specs.LineColumn.{line_column};
 ghost use Rattle.resolver.specs.Resolver.{Resolved};

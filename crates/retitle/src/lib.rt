@@ -1,6 +1,8 @@
 // This crate writes a cue book anew with one title replaced and nothing else changed (document 02, (xiv)): it reads the book in one pass, and lays four pieces out in a second buffer.
 // It depends on `cue_book` for reading a book and finding a title, on `cue_fields` and `cues` for the format, on `pieces` for laying out, on `cue_writer` for the laws that a book written reads back, and on `matching` for its tables of refusals, its parts of a slice and the answer that a call gives.
 // proofs/Retitling.antt has the theorem that the new book reads as the old one with that cue's title replaced (`new-book`).
+#![tactic(auto)]
+
 ghost use Rattle.std.specs.Prelude.{◌+◌, ◌≤◌, length};
 ghost use Rattle.retitle.specs.Retitling.{Retitled, book_pieces, Put};
 

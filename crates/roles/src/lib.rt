@@ -1,5 +1,7 @@
 // The roles of those who call (document 02, (xiv)): which acts on a cue book or a cue each of them may do. Every call on a book or a cue asks this crate before any other test.
 // It depends on no other crate.
+#![tactic(auto)]
+
 ghost use Rattle.std.specs.Prelude.{◌≡◌};
 ghost use Rattle.roles.specs.Roles.{may_all, may_retitle, may_resolve};
 

@@ -1,6 +1,8 @@
 // The tables by the suffixes of a pattern: Boyer-Moore's DELTA2, and the borders of the suffixes, in which its maker works. Each maker writes only its own entries into lent memory of
 // 16-bit numbers. It depends on `tables`, and on `matching` for what an occurrence is. Engines know DELTA2 by its rule alone (specs/), and prove their skips from the laws that
 // stand beside it (proofs/Moves.antt). A table too short, or a pattern so long that an entry could pass 16 bits, leaves everything as before.
+#![tactic(auto)]
+
 ghost use Rattle.std.specs.Prelude.{◌≡◌, ◌+◌, ◌≤◌, length};
 ghost use Rattle.tables.specs.Tables.{Entries};
 ghost use Rattle.suffix_tables.specs.Suffixes.{suffix_entry, suffix_made};

@@ -1,5 +1,7 @@
 // Sunday's engine: left to right, then move by the entry of the text letter after the window; if there is none, stop. It depends on `matching`, and on
 // `tables` and `letter_tables` for the entries.
+#![tactic(auto)]
+
 ghost use Rattle.matching.specs.Find.{Found};
 ghost use Rattle.sunday.specs.Sunday.{sunday};
 

@@ -2,6 +2,7 @@
 // rust/tests/tests/vectors.rs builds that file again from the reference implementation, case by case; a new case here needs its line there and in `stdout`.
 // It depends on the crates whose functions it calls.
 // One line a case: what is asked, then numbers, one space before each. Every table is 9 throughout, and every list 9, before it is used.
+#![tactic(auto)]
 
 fn wide(entry: u16) -> u64 {
     entry as u64

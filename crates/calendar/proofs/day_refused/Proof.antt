@@ -6,13 +6,13 @@ use Rattle.calendar.specs.Calendar.{last_day, day_refusal}
 use Rattle.calendar.proofs.day_refused.Statement.{statement}
 use Rattle.calendar.proofs.day_refused.Tie as tie
 
-returns : tie.Need-returns
+returns : tie.Need-returns-then-day-gt-LAST_DAY
 unfolding day_refusal first_met
 returns c = rw (lt-ltb last_day c.before.args.day (omega arith))
 
-returns-2 : tie.Need-returns-2
+returns-2 : tie.Need-returns
 unfolding day_refusal first_met
 returns-2 c = rw (le-ltb last_day c.before.args.day (omega arith))
 
-pub day-refused-spec : {M : Type 1} → statement M
-day-refused-spec = tie.close (tie.spec returns returns-2)
+pub day_refused_spec : {M : Type 1} → statement M
+day_refused_spec = tie.close (tie.spec returns returns-2)

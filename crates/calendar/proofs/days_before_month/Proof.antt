@@ -8,60 +8,60 @@ use Rattle.calendar.proofs.Counting.{year-range, year-months, months-more, month
 use Rattle.calendar.proofs.days_before_month.Statement.{statement}
 use Rattle.calendar.proofs.days_before_month.Tie as tie
 
-abbrev invariant-loop : tie.invariant-loop
-invariant-loop year month days₀ m₀ days m = (days ≡ months_days year (m - 1)) × ((1 ≤ m) × (m - 1 ≤ month - 1))
+abbrev invariant-loop-m : tie.invariant-loop-m
+invariant-loop-m year month days₀ m₀ days m = (days ≡ months_days year (m - 1)) × ((1 ≤ m) × (m - 1 ≤ month - 1))
 
-abbrev decreases-loop : tie.decreases-loop
-decreases-loop year month days₀ m₀ days m = month - m
+abbrev decreases-loop-m : tie.decreases-loop-m
+decreases-loop-m year month days₀ m₀ days m = month - m
 
-loop-holds : tie.Need-loop-init invariant-loop decreases-loop
+loop-holds : tie.Need-loop-m-init invariant-loop-m decreases-loop-m
 unfolding months_days
 loop-holds c = (refl, (omega arith, omega arith))
 
-month-length-requires : tie.Need-month-length-requires invariant-loop decreases-loop
+month-length-requires : tie.Need-month_length-days-requires invariant-loop-m decreases-loop-m
 month-length-requires c κs = search rules
 
-loop-again : tie.Need-loop-preserved invariant-loop decreases-loop
+loop-again : tie.Need-loop-m-preserved invariant-loop-m decreases-loop-m
 loop-again c =
     let l = c.before.before in
     let year = l.before.args.year in
-    let m = l.loop.m in
-    (omega (arith, l.loop.invariant.0, c.month-length.ensures, months-more year m (m + 1 - 1) l.loop.invariant.1.0 (omega arith)), (omega arith, omega arith))
+    let m = l.loop-m.m in
+    (omega (arith, l.loop-m.invariant.0, c.month_length-days.ensures, months-more year m (m + 1 - 1) l.loop-m.invariant.1.0 (omega arith)), (omega arith, omega arith))
 
 -- the sum is at most the days of the year
-add-days : tie.Need-overflow-add-days invariant-loop decreases-loop
+add-days : tie.Need-overflow_add-days invariant-loop-m decreases-loop-m
 add-days c =
     let l = c.before.before in
     let year = l.before.args.year in
-    let m = l.loop.m in
+    let m = l.loop-m.m in
     omega (
       arith,
-      l.loop.invariant.0,
-      c.month-length.ensures,
-      months-more year m m l.loop.invariant.1.0 refl,
+      l.loop-m.invariant.0,
+      c.month_length-days.ensures,
+      months-more year m m l.loop-m.invariant.1.0 refl,
       months-up year m 12 (omega (arith, l.before.requires)),
       year-months year,
       year-range year,
     )
 
-add-m : tie.Need-overflow-add-m invariant-loop decreases-loop
+add-m : tie.Need-overflow_add-m invariant-loop-m decreases-loop-m
 add-m c = omega arith
 
-loop-less : tie.Need-loop-smaller invariant-loop decreases-loop
+loop-less : tie.Need-loop-m-smaller invariant-loop-m decreases-loop-m
 loop-less c = omega arith
 
-returns : tie.Need-returns invariant-loop decreases-loop
+returns : tie.Need-returns invariant-loop-m decreases-loop-m
 returns c =
     let l = c.before in
-    let all : l.loop.m - 1 ≡ l.before.args.month - 1 = omega arith in
-    l.loop.invariant.0 ∙ ap (months_days l.before.args.year) all
+    let all : l.loop-m.m - 1 ≡ l.before.args.month - 1 = omega arith in
+    l.loop-m.invariant.0 ∙ ap (months_days l.before.args.year) all
 
-pub days-before-month-spec : {M : Type 1} → statement M
-days-before-month-spec =
+pub days_before_month_spec : {M : Type 1} → statement M
+days_before_month_spec =
     tie.close
     (tie.spec
-    invariant-loop
-    decreases-loop
+    invariant-loop-m
+    decreases-loop-m
     loop-holds
     month-length-requires
     add-days

@@ -6,17 +6,17 @@ use Rattle.calendar.specs.Calendar.{is_leap}
 use Rattle.calendar.proofs.is_leap.Statement.{statement}
 use Rattle.calendar.proofs.is_leap.Tie as tie
 
-returns : tie.Need-returns
+returns : tie.Need-returns-then-year-ne0
 unfolding is_leap
-returns c = let year = c.before.before.args.year in rw (eq-eqb (year % 4) 0 c.before.if1.true, ne_eqb (year % 100) 0 c.if2.true)
+returns c = let year = c.before.before.args.year in rw (eq-eqb (year % 4) 0 c.before.if-year-eq0.true, ne_eqb (year % 100) 0 c.if-year-ne0.true)
 
-returns-2 : tie.Need-returns-2
+returns-2 : tie.Need-returns-else-year-ne0
 unfolding is_leap
-returns-2 c = let year = c.before.before.args.year in rw (eq-eqb (year % 4) 0 c.before.if1.true, eq-eqb (year % 100) 0 c.if2.false) refl
+returns-2 c = let year = c.before.before.args.year in rw (eq-eqb (year % 4) 0 c.before.if-year-eq0.true, eq-eqb (year % 100) 0 c.if-year-ne0.false) refl
 
-returns-3 : tie.Need-returns-3
+returns-3 : tie.Need-returns-else-year-eq0
 unfolding is_leap
-returns-3 c = rw (ne_eqb (c.before.args.year % 4) 0 c.if1.false)
+returns-3 c = rw (ne_eqb (c.before.args.year % 4) 0 c.if-year-eq0.false)
 
-pub is-leap-spec : {M : Type 1} → statement M
-is-leap-spec = tie.close (tie.spec returns returns-2 returns-3)
+pub is_leap_spec : {M : Type 1} → statement M
+is_leap_spec = tie.close (tie.spec returns returns-2 returns-3)

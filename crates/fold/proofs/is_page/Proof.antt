@@ -6,13 +6,13 @@ use Rattle.fold.specs.Fold.{is_page}
 use Rattle.fold.proofs.is_page.Statement.{statement}
 use Rattle.fold.proofs.is_page.Tie as tie
 
-returns : tie.Need-returns
+returns : tie.Need-returns-then-page-eq1
 unfolding is_page
-returns c = let is : c.before.args.page ≡ 1 = omega (arith, c.if1.true) in rw is refl
+returns c = let is : c.before.args.page ≡ 1 = omega (arith, c.if-page-eq1.true) in rw is refl
 
-returns-2 : tie.Need-returns-2
+returns-2 : tie.Need-returns-else-page-eq1
 unfolding is_page
-returns-2 c = rw (ne_eqb c.before.args.page 1 (λ z. omega (arith, c.if1.false))) refl
+returns-2 c = rw (ne_eqb c.before.args.page 1 (λ z. omega (arith, c.if-page-eq1.false))) refl
 
-pub is-page-spec : {M : Type 1} → statement M
-is-page-spec = tie.close (tie.spec returns returns-2)
+pub is_page_spec : {M : Type 1} → statement M
+is_page_spec = tie.close (tie.spec returns returns-2)

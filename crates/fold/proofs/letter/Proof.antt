@@ -9,38 +9,38 @@ use Rattle.fold.proofs.letter.Statement.{statement}
 use Rattle.fold.proofs.letter.Tie as tie
 
 -- there is such a page
-some-page : (e : tie.Else1) → is_page e.before.before.args.page ≡ true
-some-page e = sym e.before.is-page.ensures ∙ not-false e.before.is-page.result e.if1.false
+some-page : (e : tie.Else-not-is_page) → is_page e.before.before.args.page ≡ true
+some-page e = sym e.before.is_page.ensures ∙ not-false e.before.is_page.result e.if-not-is_page.false-raw
 
-is-page-requires : tie.Need-is-page-requires
+is-page-requires : tie.Need-is_page-requires
 is-page-requires c κs = search rules
 
-returns : tie.Need-returns
+returns : tie.Need-returns-then-not-is_page
 unfolding letter_answer
 returns c =
     let p = c.before in
-    let no-page : is_page p.before.args.page ≡ false = sym p.is-page.ensures ∙ not-true p.is-page.result c.if1.true in
+    let no-page : is_page p.before.args.page ≡ false = sym p.is_page.ensures ∙ not-true p.is_page.result c.if-not-is_page.true-raw in
     rw no-page
 
-on-page-15-requires : tie.Need-on-page-15-requires
+on-page-15-requires : tie.Need-on_page_15-requires
 on-page-15-requires c κs = search rules
 
-cast-t6 : tie.Need-overflow-cast-t6
+cast-t6 : tie.Need-overflow_cast-result
 cast-t6 c = search rules
 
-returns-2 : tie.Need-returns-2
+returns-2 : tie.Need-returns-then-page-eq15
 unfolding letter_answer
-returns-2 c = let e = c.before.before in rw (some-page e, c.on-page-15.ensures, on-15 c.before.if2.true)
+returns-2 c = let e = c.before.before in rw (some-page e, c.on_page_15.ensures, on-15 c.before.if-page-eq15.true)
 
-on-page-1-requires : tie.Need-on-page-1-requires
+on-page-1-requires : tie.Need-on_page_1-requires
 on-page-1-requires c κs = search rules
 
-cast-t8 : tie.Need-overflow-cast-t8
+cast-t8 : tie.Need-overflow_cast-result-2
 cast-t8 c = search rules
 
-returns-3 : tie.Need-returns-3
+returns-3 : tie.Need-returns
 unfolding letter_answer
-returns-3 c = let e = c.before.before in rw (some-page e, c.on-page-1.ensures, not-on-15 c.before.if2.false)
+returns-3 c = let e = c.before.before in rw (some-page e, c.on_page_1.ensures, not-on-15 c.before.if-page-eq15.false)
 
-pub letter-spec : {M : Type 1} → statement M
-letter-spec = tie.close (tie.spec is-page-requires returns on-page-15-requires cast-t6 returns-2 on-page-1-requires cast-t8 returns-3)
+pub letter_spec : {M : Type 1} → statement M
+letter_spec = tie.close (tie.spec is-page-requires returns on-page-15-requires cast-t6 returns-2 on-page-1-requires cast-t8 returns-3)

@@ -10,54 +10,54 @@ use Rattle.fold.proofs.Filling.{Filling, filling-first, filling-length, filling-
 use Rattle.fold.proofs.letters_on_page_15.Statement.{statement}
 use Rattle.fold.proofs.letters_on_page_15.Tie as tie
 
-abbrev invariant-loop : tie.invariant-loop
-invariant-loop source target₀ table end i₀ target i = Filling folded15 source target₀ end target i
+abbrev invariant-loop-i : tie.invariant-loop-i
+invariant-loop-i source target₀ table end i₀ target i = Filling folded15 source target₀ end target i
 
-abbrev decreases-loop : tie.decreases-loop
-decreases-loop source target₀ table end i₀ target i = end - i
+abbrev decreases-loop-i : tie.decreases-loop-i
+decreases-loop-i source target₀ table end i₀ target i = end - i
 
-loop-holds : tie.Need-loop-init invariant-loop decreases-loop
-loop-holds c = let a = c.before.args in filling-first folded15 a.source.now a.target.now (⊎_elim (λ w. omega arith) (λ w. omega arith) c.if1.branch)
+loop-holds : tie.Need-loop-i-init invariant-loop-i decreases-loop-i
+loop-holds c = let a = c.before.args in filling-first folded15 a.source.now a.target.now (⊎_elim (λ w. omega arith) (λ w. omega arith) c.if-target-end.branch-raw)
 
-shared-slice-read-target : tie.Need-shared-slice-read-target invariant-loop decreases-loop
-shared-slice-read-target c = omega (arith, c.before.before.loop.invariant.whole)
+shared-slice-read-target : tie.Need-bounds-source-i invariant-loop-i decreases-loop-i
+shared-slice-read-target c = omega (arith, c.before.before.loop-i.invariant.whole)
 
-cast-target : tie.Need-overflow-cast-target invariant-loop decreases-loop
-cast-target c = omega (arith, c.shared-slice-known.given c.before.before.loop.i)
+cast-target : tie.Need-overflow_cast-target invariant-loop-i decreases-loop-i
+cast-target c = omega (arith, c.shared_slice_known-1.given c.before.before.loop-i.i)
 
-array-read-target : tie.Need-array-read-target invariant-loop decreases-loop
-array-read-target c = omega (arith, c.shared-slice-known.given c.before.before.loop.i)
+array-read-target : tie.Need-bounds-table-source invariant-loop-i decreases-loop-i
+array-read-target c = omega (arith, c.shared_slice_known-1.given c.before.before.loop-i.i)
 
-slice-write-target : tie.Need-slice-write-target invariant-loop decreases-loop
-slice-write-target c = let f = c.before.before.loop.invariant in omega (arith, filling-length f, f.whole)
+slice-write-target : tie.Need-bounds-target-i invariant-loop-i decreases-loop-i
+slice-write-target c = let f = c.before.before.loop-i.invariant in omega (arith, filling-length f, f.whole)
 
-add-i : tie.Need-overflow-add-i invariant-loop decreases-loop
+add-i : tie.Need-overflow_add-i invariant-loop-i decreases-loop-i
 add-i c = omega arith
 
-loop-less : tie.Need-loop-smaller invariant-loop decreases-loop
+loop-less : tie.Need-loop-i-smaller invariant-loop-i decreases-loop-i
 loop-less c = omega arith
 
 -- an entry of the table is what its letter folds to (as in `on_page_15`)
-loop-again : tie.Need-loop-preserved invariant-loop decreases-loop
+loop-again : tie.Need-loop-i-preserved invariant-loop-i decreases-loop-i
 unfolding tabulate folded15
 loop-again c =
     let l = c.before.before in
-    let x = get_or l.before.before.args.source.now l.loop.i 0 in
-    let byte : x < 256 = omega (arith, c.shared-slice-known.given l.loop.i) in
-    filling-next l.loop.invariant _ (omega arith) (get_d_tabulate 256 folded15 x byte)
+    let x = get_or l.before.before.args.source.now l.loop-i.i 0 in
+    let byte : x < 256 = omega (arith, c.shared_slice_known-1.given l.loop-i.i) in
+    filling-next l.loop-i.invariant _ (omega arith) (get_d_tabulate 256 folded15 x byte)
 
-same_length : tie.Need-same-length invariant-loop decreases-loop
-same_length c = filling-length c.before.loop.invariant
+same_length : tie.Need-shape_of-target invariant-loop-i decreases-loop-i
+same_length c = filling-length c.before.loop-i.invariant
 
-returns : tie.Need-returns invariant-loop decreases-loop
-returns c = let f = c.before.loop.invariant in (f.whole, filling-over f (omega arith))
+returns : tie.Need-returns invariant-loop-i decreases-loop-i
+returns c = let f = c.before.loop-i.invariant in (f.whole, filling-over f (omega arith))
 
-pub letters-on-page-15-spec : {M : Type 1} → statement M
-letters-on-page-15-spec =
+pub letters_on_page_15_spec : {M : Type 1} → statement M
+letters_on_page_15_spec =
     tie.close
     (tie.spec
-    invariant-loop
-    decreases-loop
+    invariant-loop-i
+    decreases-loop-i
     loop-holds
     shared-slice-read-target
     cast-target

@@ -14,5 +14,5 @@ returns : tie.Need-returns
 unfolding tabulate folded15
 returns c = get_d_tabulate 256 folded15 c.args.byte (omega arith)
 
-pub on-page-15-spec : {M : Type 1} → statement M
-on-page-15-spec = tie.close (tie.spec array-read-result returns)
+pub on_page_15_spec : {M : Type 1} → statement M
+on_page_15_spec = tie.close (tie.spec array-read-result returns)

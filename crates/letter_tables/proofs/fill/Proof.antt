@@ -32,95 +32,95 @@ begin P base table {part} h e =
     let is : part ≡ replicate 256 base = e ∙ ap (λ (n : ℕ). replicate n base) (length-take-le 256 table h) in
     rw is (ruled-as (λ i _. omega (arith, last_in-zero P i)) (ruled-all 256 base table h))
 
-abbrev invariant-loop : tie.invariant-loop
-invariant-loop pattern base count table₀ absent q₀ table q = Ruled 256 (entry_after pattern base q) table₀ table × (q ≤ count)
+abbrev invariant-loop-q : tie.invariant-loop-q
+invariant-loop-q pattern base count table₀ absent q₀ table q = Ruled 256 (entry_after pattern base q) table₀ table × (q ≤ count)
 
-abbrev decreases-loop : tie.decreases-loop
-decreases-loop pattern base count table₀ absent q₀ table q = count - q
+abbrev decreases-loop-q : tie.decreases-loop-q
+decreases-loop-q pattern base count table₀ absent q₀ table q = count - q
 
-cast-absent : tie.Need-overflow-cast-absent invariant-loop decreases-loop
+cast-absent : tie.Need-overflow_cast-absent invariant-loop-q decreases-loop-q
 cast-absent c = omega arith
 
-slice-relend-prefix-set-all : tie.Need-slice-relend-prefix-set-all invariant-loop decreases-loop
+slice-relend-prefix-set-all : tie.Need-slice_bounds-set_all-end invariant-loop-q decreases-loop-q
 slice-relend-prefix-set-all c = omega arith
 
-slice-aggregate-set-all : tie.Need-slice-aggregate-set-all invariant-loop decreases-loop
+slice-aggregate-set-all : tie.Need-slice_bounds-set_all-end-2 invariant-loop-q decreases-loop-q
 slice-aggregate-set-all c = sym (length-take-le _ c.before.before.before.args.table.now (omega arith))
 
-set-all-requires : tie.Need-set-all-requires invariant-loop decreases-loop
+set-all-requires : tie.Need-set_all-requires invariant-loop-q decreases-loop-q
 set-all-requires c κs = tt
 
 -- the arguments, and the table when the loop begins
-abbrev start : tie.After-set-all invariant-loop decreases-loop → tie.Start invariant-loop decreases-loop
+abbrev start : tie.After-set_all invariant-loop-q decreases-loop-q → tie.Start invariant-loop-q decreases-loop-q
 start k = k.before.before.before.before
 
-abbrev begun : tie.At-loop invariant-loop decreases-loop → tie.After-set-all invariant-loop decreases-loop
+abbrev begun : tie.At-loop-q invariant-loop-q decreases-loop-q → tie.After-set_all invariant-loop-q decreases-loop-q
 begun l = l.before.before.before
 
-loop-holds : tie.Need-loop-init invariant-loop decreases-loop
+loop-holds : tie.Need-loop-q-init invariant-loop-q decreases-loop-q
 loop-holds c =
     let k = c.before.before in
     let a = (start k).args in
-    (ruled-anew (begin a.pattern.now a.base a.table.now (omega arith) k.set_all.ensures), omega arith)
+    (ruled-anew (begin a.pattern.now a.base a.table-1.now (omega arith) k.set_all.ensures), omega arith)
 
-sub-table : tie.Need-overflow-sub-table invariant-loop decreases-loop
+sub-table : tie.Need-overflow_sub-table invariant-loop-q decreases-loop-q
 sub-table c = omega arith
 
-sub-table-2 : tie.Need-overflow-sub-table-2 invariant-loop decreases-loop
+sub-table-2 : tie.Need-overflow_sub-table-in-loop-q invariant-loop-q decreases-loop-q
 sub-table-2 c = omega arith
 
-cast-table : tie.Need-overflow-cast-table invariant-loop decreases-loop
+cast-table : tie.Need-overflow_cast-table invariant-loop-q decreases-loop-q
 cast-table c = omega arith
 
-shared-slice-read-table : tie.Need-shared-slice-read-table invariant-loop decreases-loop
+shared-slice-read-table : tie.Need-bounds-pattern-q invariant-loop-q decreases-loop-q
 shared-slice-read-table c = omega arith
 
-cast-table-2 : tie.Need-overflow-cast-table-2 invariant-loop decreases-loop
-cast-table-2 c = omega (arith, c.shared-slice-known2.given c.before.before.loop.q)
+cast-table-2 : tie.Need-overflow_cast-table-in-loop-q invariant-loop-q decreases-loop-q
+cast-table-2 c = omega (arith, c.shared_slice_known-in-loop-q-1.given c.before.before.loop-q.q)
 
-mul-table : tie.Need-overflow-mul-table invariant-loop decreases-loop
-mul-table c = omega (arith, c.shared-slice-known2.given c.before.before.loop.q)
+mul-table : tie.Need-offset_bounds-table-pattern invariant-loop-q decreases-loop-q
+mul-table c = omega (arith, c.shared_slice_known-in-loop-q-1.given c.before.before.loop-q.q)
 
-slice-write-table : tie.Need-slice-write-table invariant-loop decreases-loop
-slice-write-table c = let l = c.before.before in omega (arith, c.shared-slice-known2.given l.loop.q, l.loop.invariant.0.room)
+slice-write-table : tie.Need-bounds-table-pattern invariant-loop-q decreases-loop-q
+slice-write-table c = let l = c.before.before in omega (arith, c.shared_slice_known-in-loop-q-1.given l.loop-q.q, l.loop-q.invariant.0.room)
 
-add-q : tie.Need-overflow-add-q invariant-loop decreases-loop
+add-q : tie.Need-overflow_add-q invariant-loop-q decreases-loop-q
 add-q c = omega arith
 
-loop-less : tie.Need-loop-smaller invariant-loop decreases-loop
+loop-less : tie.Need-loop-q-smaller invariant-loop-q decreases-loop-q
 loop-less c = omega arith
 
-loop-again : tie.Need-loop-preserved invariant-loop decreases-loop
+loop-again : tie.Need-loop-q-preserved invariant-loop-q decreases-loop-q
 loop-again c =
     let l = c.before.before in
     let a = (start (begun l)).args in
     let P = a.pattern.now in
-    let x = get_or P l.loop.q 0 in
-    (ruled-set (entry_after P a.base (l.loop.q + 1)) x (a.base - 1 - l.loop.q) (omega (arith, c.shared-slice-known2.given l.loop.q)) (after P a.base l.loop.q) l.loop.invariant.0, omega arith)
+    let x = get_or P l.loop-q.q 0 in
+    (ruled-set (entry_after P a.base (l.loop-q.q + 1)) x (a.base - 1 - l.loop-q.q) (omega (arith, c.shared_slice_known-in-loop-q-1.given l.loop-q.q)) (after P a.base l.loop-q.q) l.loop-q.invariant.0, omega arith)
 
-same_length : tie.Need-same-length invariant-loop decreases-loop
+same_length : tie.Need-shape_of-table invariant-loop-q decreases-loop-q
 same_length c =
     let l = c.before in
     let k = begun l in
     let a = (start k).args in
-    l.loop.invariant.0.long ∙ (begin a.pattern.now a.base a.table.now (omega arith) k.set_all.ensures).long
+    l.loop-q.invariant.0.long ∙ (begin a.pattern.now a.base a.table-1.now (omega arith) k.set_all.ensures).long
 
-returns : tie.Need-returns invariant-loop decreases-loop
+returns : tie.Need-returns invariant-loop-q decreases-loop-q
 returns c =
     let l = c.before in
     let k = begun l in
     let a = (start k).args in
     let P = a.pattern.now in
-    let done : l.loop.q ≡ a.count = omega arith in
-    ruled-is (ruled-since (begin P a.base a.table.now (omega arith) k.set_all.ensures) l.loop.invariant.0)
-    ∙ ap (λ (n : ℕ). last_table P a.base n ++ drop 256 a.table.now) done
+    let done : l.loop-q.q ≡ a.count = omega arith in
+    ruled-is (ruled-since (begin P a.base a.table-1.now (omega arith) k.set_all.ensures) l.loop-q.invariant.0)
+    ∙ ap (λ (n : ℕ). last_table P a.base n ++ drop 256 a.table-1.now) done
 
 pub fill_spec : {M : Type 1} → statement M
 fill_spec =
     tie.close
     (tie.spec
-    invariant-loop
-    decreases-loop
+    invariant-loop-q
+    decreases-loop-q
     cast-absent
     slice-relend-prefix-set-all
     slice-aggregate-set-all

@@ -22,11 +22,11 @@ record Passed (P before : List ℕ) (q width letter : ℕ) : Type 0 where
   width_is : width ≡ widest P q
   letter-is : letter ≡ widest_at P q
 
-abbrev invariant-loop : tie.invariant-loop
-invariant-loop pattern m before₀ width₀ letter₀ q₀ before width letter q = Passed pattern before q width letter
+abbrev invariant-loop-q : tie.invariant-loop-q
+invariant-loop-q pattern m before₀ width₀ letter₀ q₀ before width letter q = Passed pattern before q width letter
 
-abbrev decreases-loop : tie.decreases-loop
-decreases-loop pattern m before₀ width₀ letter₀ q₀ before width letter q = m - q
+abbrev decreases-loop-q : tie.decreases-loop-q
+decreases-loop-q pattern m before₀ width₀ letter₀ q₀ before width letter q = m - q
 
 -- no letter is passed
 begin : (P : List ℕ) → Passed P (replicate 256 0) 0 0 0
@@ -70,71 +70,71 @@ module _ {P before : List ℕ} {q width letter : ℕ} (p : Passed P before q wid
       let narrow : gap P q < widest P q = omega (arith, this, p.width_is) in
       passed (w ∙ p.width_is ∙ sym (widest-old P q narrow)) (l ∙ p.letter-is ∙ sym (widest_at-old P q narrow))
 
-returns : tie.Need-returns invariant-loop decreases-loop
-returns c = sym (found_none c.before.args.pattern.now c.if1.true)
+returns : tie.Need-returns-then-m-gt65535 invariant-loop-q decreases-loop-q
+returns c = sym (found_none c.before.args.pattern.now c.if-m-gt65535.true)
 
-loop-holds : tie.Need-loop-init invariant-loop decreases-loop
+loop-holds : tie.Need-loop-q-init invariant-loop-q decreases-loop-q
 loop-holds c = begin c.before.args.pattern.now
 
 -- the next letter is a byte
-byte : (c : tie.After-shared-slice-known invariant-loop decreases-loop) → let l = c.before.before in get_or l.before.before.args.pattern.now l.loop.q 0 < 256
-byte c = omega (arith, c.shared-slice-known.given c.before.before.loop.q)
+byte : (c : tie.After-shared_slice_known-1 invariant-loop-q decreases-loop-q) → let l = c.before.before in get_or l.before.before.args.pattern.now l.loop-q.q 0 < 256
+byte c = omega (arith, c.shared_slice_known-1.given c.before.before.loop-q.q)
 
-shared-slice-read-c : tie.Need-shared-slice-read-c invariant-loop decreases-loop
+shared-slice-read-c : tie.Need-bounds-pattern-q invariant-loop-q decreases-loop-q
 shared-slice-read-c c = omega arith
 
-cast-c : tie.Need-overflow-cast-c invariant-loop decreases-loop
+cast-c : tie.Need-overflow_cast-c invariant-loop-q decreases-loop-q
 cast-c c = omega (arith, byte c)
 
-add-gap : tie.Need-overflow-add-gap invariant-loop decreases-loop
+add-gap : tie.Need-overflow_add-gap invariant-loop-q decreases-loop-q
 add-gap c = omega arith
 
-mul-gap : tie.Need-overflow-mul-gap invariant-loop decreases-loop
+mul-gap : tie.Need-offset_bounds-before-c invariant-loop-q decreases-loop-q
 mul-gap c = omega (arith, byte c)
 
-array-read-gap : tie.Need-array-read-gap invariant-loop decreases-loop
+array-read-gap : tie.Need-bounds-before-c invariant-loop-q decreases-loop-q
 array-read-gap c = byte c
 
-cast-gap : tie.Need-overflow-cast-gap invariant-loop decreases-loop
-cast-gap c = let l = c.before.before in omega (arith, last-le l.loop.invariant (omega arith) (byte c), l.before.if1.false)
+cast-gap : tie.Need-overflow_cast-gap invariant-loop-q decreases-loop-q
+cast-gap c = let l = c.before.before in omega (arith, last-le l.loop-q.invariant (omega arith) (byte c), l.before.if-m-gt65535.false)
 
-sub-gap : tie.Need-overflow-sub-gap invariant-loop decreases-loop
-sub-gap c = omega (arith, last-le c.before.before.loop.invariant (omega arith) (byte c))
+sub-gap : tie.Need-overflow_sub-gap invariant-loop-q decreases-loop-q
+sub-gap c = omega (arith, last-le c.before.before.loop-q.invariant (omega arith) (byte c))
 
-add-q : tie.Need-overflow-add-q invariant-loop decreases-loop
+add-q : tie.Need-overflow_add-q invariant-loop-q decreases-loop-q
 add-q c = omega arith
 
-cast-before : tie.Need-overflow-cast-before invariant-loop decreases-loop
-cast-before c = omega (arith, c.before.before.before.before.if1.false)
+cast-before : tie.Need-overflow_cast-before invariant-loop-q decreases-loop-q
+cast-before c = omega (arith, c.before.before.before.before.if-m-gt65535.false)
 
-mul-before : tie.Need-overflow-mul-before invariant-loop decreases-loop
+mul-before : tie.Need-offset_bounds-before-c-in-loop-q invariant-loop-q decreases-loop-q
 mul-before c = omega (arith, byte c.before)
 
-array-write-before : tie.Need-array-write-before invariant-loop decreases-loop
+array-write-before : tie.Need-bounds-before-c-in-loop-q invariant-loop-q decreases-loop-q
 array-write-before c = byte c.before
 
-loop-less : tie.Need-loop-smaller invariant-loop decreases-loop
+loop-less : tie.Need-loop-q-smaller invariant-loop-q decreases-loop-q
 loop-less c = omega arith
 
-loop-again : tie.Need-loop-preserved invariant-loop decreases-loop
+loop-again : tie.Need-loop-q-preserved invariant-loop-q decreases-loop-q
 loop-again c =
-    let p = c.before.before.before.loop.invariant in
+    let p = c.before.before.before.loop-q.invariant in
     let b = byte c.before in
-    ⊎_elim (λ w. wider p (omega arith) b (omega (arith, w.0.taken)) (omega (arith, w.1)) w.2) (λ w. narrower p (omega arith) b (omega (arith, w.0.left)) w.1 w.2) c.if2.branch
+    ⊎_elim (λ w. wider p (omega arith) b (omega (arith, w.0.true)) (omega (arith, w.1)) w.2) (λ w. narrower p (omega arith) b (omega (arith, w.0.false)) w.1 w.2) c.if-width-gap.branch-raw
 
-returns-2 : tie.Need-returns-2 invariant-loop decreases-loop
+returns-2 : tie.Need-returns invariant-loop-q decreases-loop-q
 returns-2 c =
     let l = c.before in
     let P = l.before.before.args.pattern.now in
-    let done : l.loop.q ≡ length P = omega (arith, l.loop.invariant.low) in
-    rw (l.loop.invariant.width_is, l.loop.invariant.letter-is, done) (sym (found-widest P l.before.if1.false))
+    let done : l.loop-q.q ≡ length P = omega (arith, l.loop-q.invariant.low) in
+    rw (l.loop-q.invariant.width_is, l.loop-q.invariant.letter-is, done) (sym (found-widest P l.before.if-m-gt65535.false))
 
-pub widest-gap-spec : {M : Type 1} → statement M
-widest-gap-spec =
+pub widest_gap_spec : {M : Type 1} → statement M
+widest_gap_spec =
     tie.close
     (tie.spec
-    invariant-loop
-    decreases-loop
+    invariant-loop-q
+    decreases-loop-q
     returns
     loop-holds
     shared-slice-read-c

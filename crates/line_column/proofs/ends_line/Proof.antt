@@ -5,17 +5,17 @@ use Rattle.line_column.specs.LineColumn.{is_pair, is_ending, ends_line}
 use Rattle.line_column.proofs.ends_line.Statement.{statement}
 use Rattle.line_column.proofs.ends_line.Tie as tie
 
-returns : tie.Need-returns
+returns : tie.Need-returns-then-here-eq10
 unfolding ends_line is_pair is_ending
-returns c = rw c.if1.true refl
+returns c = rw c.if-here-eq10.true refl
 
-returns-2 : tie.Need-returns-2
+returns-2 : tie.Need-returns-then-here-eq13
 unfolding ends_line is_pair is_ending
-returns-2 c = rw c.if2.true refl
+returns-2 c = rw c.if-here-eq13.true refl
 
-returns-3 : tie.Need-returns-3
+returns-3 : tie.Need-returns-else-here-eq13
 unfolding ends_line is_pair is_ending
-returns-3 c = let here = c.before.before.args.here in rw (ne_eqb here 10 c.before.if1.false, ne_eqb here 13 c.if2.false) refl
+returns-3 c = let here = c.before.before.args.here in rw (ne_eqb here 10 c.before.if-here-eq10.false, ne_eqb here 13 c.if-here-eq13.false) refl
 
-pub ends-line-spec : {M : Type 1} → statement M
-ends-line-spec = tie.close (tie.spec returns returns-2 returns-3)
+pub ends_line_spec : {M : Type 1} → statement M
+ends_line_spec = tie.close (tie.spec returns returns-2 returns-3)

@@ -16,153 +16,153 @@ use Rattle.naive.proofs.Sound.{sound}
 use Rattle.naive.proofs.find.Statement.{statement}
 use Rattle.naive.proofs.find.Tie as tie
 
-abbrev invariant-loop2 : tie.invariant-loop2
-invariant-loop2 pattern text scratch list m n refusal total compared s k₀ k = Upward pattern text s 0 (length pattern) k
+abbrev invariant-loop-k : tie.invariant-loop-k
+invariant-loop-k pattern text scratch list m n refusal total compared s k₀ k = Upward pattern text s 0 (length pattern) k
 
-abbrev decreases-loop2 : tie.decreases-loop2
-decreases-loop2 pattern text scratch list m n refusal total compared s k₀ k = length pattern - k
+abbrev decreases-loop-k : tie.decreases-loop-k
+decreases-loop-k pattern text scratch list m n refusal total compared s k₀ k = length pattern - k
 
-abbrev invariant-loop : tie.invariant-loop
-invariant-loop pattern text scratch list₀ m n refusal total₀ compared₀ s₀ list total compared s = Progress naive pattern text list₀ (at s 0) total compared list × (s ≤ length text)
+abbrev invariant-loop-s : tie.invariant-loop-s
+invariant-loop-s pattern text scratch list₀ m n refusal total₀ compared₀ s₀ list total compared s = Progress naive pattern text list₀ (at s 0) total compared list × (s ≤ length text)
 
-abbrev decreases-loop : tie.decreases-loop
-decreases-loop pattern text scratch list₀ m n refusal total₀ compared₀ s₀ list total compared s = length text + 1 - s
+abbrev decreases-loop-s : tie.decreases-loop-s
+decreases-loop-s pattern text scratch list₀ m n refusal total₀ compared₀ s₀ list total compared s = length text + 1 - s
 
 -- the call, from where it is not refused and from the loop; its pattern and its text
-abbrev call : tie.Else1 invariant-loop2 decreases-loop2 invariant-loop decreases-loop → tie.Start invariant-loop2 decreases-loop2 invariant-loop decreases-loop
+abbrev call : tie.Else-refusal-ne0 invariant-loop-k decreases-loop-k invariant-loop-s decreases-loop-s → tie.Start invariant-loop-k decreases-loop-k invariant-loop-s decreases-loop-s
 call e = e.before.before.before.before.before.before
 
-abbrev P : tie.At-loop invariant-loop2 decreases-loop2 invariant-loop decreases-loop → List ℕ
+abbrev P : tie.At-loop-s invariant-loop-k decreases-loop-k invariant-loop-s decreases-loop-s → List ℕ
 P l = (call l.before).args.pattern.now
 
-abbrev T : tie.At-loop invariant-loop2 decreases-loop2 invariant-loop decreases-loop → List ℕ
+abbrev T : tie.At-loop-s invariant-loop-k decreases-loop-k invariant-loop-s decreases-loop-s → List ℕ
 T l = (call l.before).args.text.now
 
 -- from the inner loop, the window's loop
-abbrev outer : tie.At-loop2 invariant-loop2 decreases-loop2 invariant-loop decreases-loop → tie.At-loop invariant-loop2 decreases-loop2 invariant-loop decreases-loop
+abbrev outer : tie.At-loop-k invariant-loop-k decreases-loop-k invariant-loop-s decreases-loop-s → tie.At-loop-s invariant-loop-k decreases-loop-k invariant-loop-s decreases-loop-s
 outer i = i.before.before.before.before.before
 
 -- the call is not refused
-allowed : (e : tie.Else1 invariant-loop2 decreases-loop2 invariant-loop decreases-loop) → let a = (call e).args in Accepted naive a.pattern.now a.text.now a.scratch.now
-allowed e = accepted e.before.refused.ensures e.if1.false
+allowed : (e : tie.Else-refusal-ne0 invariant-loop-k decreases-loop-k invariant-loop-s decreases-loop-s) → let a = (call e).args in Accepted naive a.pattern.now a.text.now a.scratch.now
+allowed e = accepted e.before.refused-refusal.ensures e.if-refusal-ne0.false
 
 -- as many letters are equal as were reached
-reached : (d : tie.Left-loop2 invariant-loop2 decreases-loop2 invariant-loop decreases-loop) → let i = d.before in let l = outer i in i.loop2.k ≡ reach (P l) (T l) l.loop.s 0
-reached d = let u = d.before.loop2.invariant in ⊎_elim (λ w. up_ends u (omega arith) w.left) (λ w. up-stops u (omega arith) w.0.taken w.3.taken) d.loop2-test.branch
+reached : (d : tie.Left-loop-k invariant-loop-k decreases-loop-k invariant-loop-s decreases-loop-s) → let i = d.before in let l = outer i in i.loop-k.k ≡ reach (P l) (T l) l.loop-s.s 0
+reached d = let u = d.before.loop-k.invariant in ⊎_elim (λ w. up_ends u (omega arith) w.loop-k-test.false) (λ w. up-stops u (omega arith) w.loop-k-test.true w.if-pattern-k.true) d.loop-k-test.branch-raw
 
 -- one window done, whether it reports or not
-stepped : (c : tie.Joined4 invariant-loop2 decreases-loop2 invariant-loop decreases-loop)
-    → let l = outer c.before.before in Progress naive (P l) (T l) (call l.before).args.list.now (at (l.loop.s + 1) 0) c.if4.total c.if4.compared c.if4.list
+stepped : (c : tie.Joined-k-m invariant-loop-k decreases-loop-k invariant-loop-s decreases-loop-s)
+    → let l = outer c.before.before in Progress naive (P l) (T l) (call l.before).args.list.now (at (l.loop-s.s + 1) 0) c.if-k-m.total c.if-k-m.compared c.if-k-m.list
 unfolding window
 stepped c =
     let i = c.before.before in
-    let p = (outer i).loop.invariant.0 in
+    let p = (outer i).loop-s.invariant.0 in
     let is = reached c.before in
     ⊎_elim
-    (λ w. rw (w.1, w.2, w.3) (miss-up p (omega arith) refl is (omega (arith, w.0.taken)) (omega arith)))
-    (λ w. rw (w.5, w.6, w.7, w.2.ensures) (hit-up p (omega arith) refl is (omega (arith, w.0.left, i.loop2.invariant.upto)) (omega arith)))
-    c.if4.branch
+    (λ w. rw (w.list-is, w.total-is, w.compared-is) (miss-up p (omega arith) refl is (omega (arith, w.if-k-m.true)) (omega arith)))
+    (λ w. rw (w.list-is, w.total-is, w.compared-is, w.store.ensures) (hit-up p (omega arith) refl is (omega (arith, w.if-k-m.false, i.loop-k.invariant.upto)) (omega arith)))
+    c.if-k-m.branch-raw
 
-refused-requires : tie.Need-refused-requires invariant-loop2 decreases-loop2 invariant-loop decreases-loop
+refused-requires : tie.Need-refused-refusal-requires invariant-loop-k decreases-loop-k invariant-loop-s decreases-loop-s
 refused-requires c κs = omega arith
 
-returns : tie.Need-returns invariant-loop2 decreases-loop2 invariant-loop decreases-loop
-returns c = found-refused c.before.refused.ensures c.if1.true
+returns : tie.Need-returns-then-refusal-ne0 invariant-loop-k decreases-loop-k invariant-loop-s decreases-loop-s
+returns c = found-refused c.before.refused-refusal.ensures c.if-refusal-ne0.true
 
-loop-holds : tie.Need-loop-init invariant-loop2 decreases-loop2 invariant-loop decreases-loop
+loop-holds : tie.Need-loop-s-init invariant-loop-k decreases-loop-k invariant-loop-s decreases-loop-s
 loop-holds c = let a = (call c).args in (begins (allowed c).limits (sound a.pattern.now a.text.now), omega arith)
 
-add-loop : tie.Need-overflow-add-loop invariant-loop2 decreases-loop2 invariant-loop decreases-loop
-add-loop c = omega (arith, c.loop.invariant.0.short, c.loop.invariant.0.small)
+add-loop : tie.Need-overflow_add-s invariant-loop-k decreases-loop-k invariant-loop-s decreases-loop-s
+add-loop c = omega (arith, c.loop-s.invariant.0.short, c.loop-s.invariant.0.small)
 
-shared-slice-read-if2 : tie.Need-shared-slice-read-if2 invariant-loop2 decreases-loop2 invariant-loop decreases-loop
-shared-slice-read-if2 c = omega (arith, c.before.before.loop.invariant.0.sound.some)
+shared-slice-read-if2 : tie.Need-bounds-pattern-0 invariant-loop-k decreases-loop-k invariant-loop-s decreases-loop-s
+shared-slice-read-if2 c = omega (arith, c.before.before.loop-s.invariant.0.sound.some)
 
-shared-slice-read-if2-2 : tie.Need-shared-slice-read-if2-2 invariant-loop2 decreases-loop2 invariant-loop decreases-loop
-shared-slice-read-if2-2 c = omega (arith, c.before.before.before.loop.invariant.0.sound.some)
+shared-slice-read-if2-2 : tie.Need-bounds-text-s invariant-loop-k decreases-loop-k invariant-loop-s decreases-loop-s
+shared-slice-read-if2-2 c = omega (arith, c.before.before.before.loop-s.invariant.0.sound.some)
 
-add-compared : tie.Need-overflow-add-compared invariant-loop2 decreases-loop2 invariant-loop decreases-loop
-add-compared c = omega (arith, compared-small c.before.before.before.before.loop.invariant.0)
+add-compared : tie.Need-overflow_add-compared invariant-loop-k decreases-loop-k invariant-loop-s decreases-loop-s
+add-compared c = omega (arith, compared-small c.before.before.before.before.loop-s.invariant.0)
 
-add-s : tie.Need-overflow-add-s invariant-loop2 decreases-loop2 invariant-loop decreases-loop
-add-s c = omega (arith, c.before.before.before.before.loop.invariant.0.small)
+add-s : tie.Need-overflow_add-s-then-pattern-text invariant-loop-k decreases-loop-k invariant-loop-s decreases-loop-s
+add-s c = omega (arith, c.before.before.before.before.loop-s.invariant.0.small)
 
-loop-less : tie.Need-loop-smaller invariant-loop2 decreases-loop2 invariant-loop decreases-loop
+loop-less : tie.Need-loop-s-smaller-then-pattern-text invariant-loop-k decreases-loop-k invariant-loop-s decreases-loop-s
 loop-less c = omega arith
 
-loop-again : tie.Need-loop-preserved invariant-loop2 decreases-loop2 invariant-loop decreases-loop
+loop-again : tie.Need-loop-s-preserved-then-pattern-text invariant-loop-k decreases-loop-k invariant-loop-s decreases-loop-s
 unfolding window
 loop-again c =
     let l = c.before.before.before.before in
-    let p = l.loop.invariant.0 in
+    let p = l.loop-s.invariant.0 in
     let some = p.sound.some in
-    (miss-up p (omega arith) refl (sym (reach-nothing (P l) (T l) l.loop.s some (omega arith) c.if2.true)) some (omega arith), omega (arith, some))
+    (miss-up p (omega arith) refl (sym (reach-nothing (P l) (T l) l.loop-s.s some (omega arith) c.if-pattern-text.true)) some (omega arith), omega (arith, some))
 
-loop2-holds : tie.Need-loop2-init invariant-loop2 decreases-loop2 invariant-loop decreases-loop
-loop2-holds c = up_first c.before.before.before.before.loop.invariant.0.sound.some (omega arith) refl refl c.if2.false
+loop2-holds : tie.Need-loop-k-init invariant-loop-k decreases-loop-k invariant-loop-s decreases-loop-s
+loop2-holds c = up_first c.before.before.before.before.loop-s.invariant.0.sound.some (omega arith) refl refl c.if-pattern-text.false
 
-shared-slice-read-if3 : tie.Need-shared-slice-read-if3 invariant-loop2 decreases-loop2 invariant-loop decreases-loop
+shared-slice-read-if3 : tie.Need-bounds-pattern-k invariant-loop-k decreases-loop-k invariant-loop-s decreases-loop-s
 shared-slice-read-if3 c = omega arith
 
-add-if3 : tie.Need-overflow-add-if3 invariant-loop2 decreases-loop2 invariant-loop decreases-loop
-add-if3 c = let p = (outer c.before.before).loop.inv.0 in omega (arith, p.short, p.small)
+add-if3 : tie.Need-overflow_add-s-in-loop-k invariant-loop-k decreases-loop-k invariant-loop-s decreases-loop-s
+add-if3 c = let p = (outer c.before.before).loop-s.invariant.0 in omega (arith, p.short, p.small)
 
-shared-slice-read-if3-2 : tie.Need-shared-slice-read-if3-2 invariant-loop2 decreases-loop2 invariant-loop decreases-loop
+shared-slice-read-if3-2 : tie.Need-bounds-text-s-in-loop-k invariant-loop-k decreases-loop-k invariant-loop-s decreases-loop-s
 shared-slice-read-if3-2 c = omega arith
 
-add-k : tie.Need-overflow-add-k invariant-loop2 decreases-loop2 invariant-loop decreases-loop
+add-k : tie.Need-overflow_add-k invariant-loop-k decreases-loop-k invariant-loop-s decreases-loop-s
 add-k c = omega arith
 
-loop2-less : tie.Need-loop2-smaller invariant-loop2 decreases-loop2 invariant-loop decreases-loop
+loop2-less : tie.Need-loop-k-smaller invariant-loop-k decreases-loop-k invariant-loop-s decreases-loop-s
 loop2-less c = omega arith
 
-loop2-again : tie.Need-loop2-preserved invariant-loop2 decreases-loop2 invariant-loop decreases-loop
-loop2-again c = up_next c.before.before.before.before.loop2.invariant (omega arith) (omega arith) (omega arith) c.if3.false
+loop2-again : tie.Need-loop-k-preserved invariant-loop-k decreases-loop-k invariant-loop-s decreases-loop-s
+loop2-again c = up_next c.before.before.before.before.loop-k.invariant (omega arith) (omega arith) (omega arith) c.if-pattern-k.false
 
-add-compared-2 : tie.Need-overflow-add-compared-2 invariant-loop2 decreases-loop2 invariant-loop decreases-loop
-add-compared-2 c = let i = c.before in let p = (outer i).loop.invariant.0 in omega (arith, compared-small p, i.loop2.invariant.upto, p.short)
+add-compared-2 : tie.Need-overflow_add-compared-in-loop-s invariant-loop-k decreases-loop-k invariant-loop-s decreases-loop-s
+add-compared-2 c = let i = c.before in let p = (outer i).loop-s.invariant.0 in omega (arith, compared-small p, i.loop-k.invariant.upto, p.short)
 
-add-compared-3 : tie.Need-overflow-add-compared-3 invariant-loop2 decreases-loop2 invariant-loop decreases-loop
-add-compared-3 c = let i = c.before.before in let p = (outer i).loop.invariant.0 in omega (arith, compared-small p, i.loop2.invariant.upto, p.short)
+add-compared-3 : tie.Need-overflow_add-compared-then-k-m invariant-loop-k decreases-loop-k invariant-loop-s decreases-loop-s
+add-compared-3 c = let i = c.before.before in let p = (outer i).loop-s.invariant.0 in omega (arith, compared-small p, i.loop-k.invariant.upto, p.short)
 
-cast-store : tie.Need-overflow-cast-store invariant-loop2 decreases-loop2 invariant-loop decreases-loop
-cast-store c = omega (arith, (outer c.before.before.before).loop.inv.0.small)
+cast-store : tie.Need-overflow_cast-s invariant-loop-k decreases-loop-k invariant-loop-s decreases-loop-s
+cast-store c = omega (arith, (outer c.before.before.before).loop-s.invariant.0.small)
 
-store-requires : tie.Need-store-requires invariant-loop2 decreases-loop2 invariant-loop decreases-loop
+store-requires : tie.Need-store-requires invariant-loop-k decreases-loop-k invariant-loop-s decreases-loop-s
 store-requires c κs = tt
 
-add_total : tie.Need-overflow-add-total invariant-loop2 decreases-loop2 invariant-loop decreases-loop
-add_total c = omega (arith, total-small (outer c.before.before.before.before.before.before).loop.inv.0)
+add_total : tie.Need-overflow_add-total invariant-loop-k decreases-loop-k invariant-loop-s decreases-loop-s
+add_total c = omega (arith, total-small (outer c.before.before.before.before.before.before).loop-s.invariant.0)
 
-add-s-2 : tie.Need-overflow-add-s-2 invariant-loop2 decreases-loop2 invariant-loop decreases-loop
-add-s-2 c = omega (arith, (outer c.before.before).loop.inv.0.small)
+add-s-2 : tie.Need-overflow_add-s-in-loop-s invariant-loop-k decreases-loop-k invariant-loop-s decreases-loop-s
+add-s-2 c = omega (arith, (outer c.before.before).loop-s.invariant.0.small)
 
-loop-less-2 : tie.Need-loop-smaller-2 invariant-loop2 decreases-loop2 invariant-loop decreases-loop
+loop-less-2 : tie.Need-loop-s-smaller invariant-loop-k decreases-loop-k invariant-loop-s decreases-loop-s
 loop-less-2 c = omega arith
 
-loop-again-2 : tie.Need-loop-preserved-2 invariant-loop2 decreases-loop2 invariant-loop decreases-loop
-loop-again-2 c = (stepped c, omega (arith, (outer c.before.before).loop.inv.0.sound.some))
+loop-again-2 : tie.Need-loop-s-preserved invariant-loop-k decreases-loop-k invariant-loop-s decreases-loop-s
+loop-again-2 c = (stepped c, omega (arith, (outer c.before.before).loop-s.invariant.0.sound.some))
 
-cast-found : tie.Need-overflow-cast-found invariant-loop2 decreases-loop2 invariant-loop decreases-loop
-cast-found c = omega (arith, total-small c.before.loop.invariant.0)
+cast-found : tie.Need-overflow_cast-found invariant-loop-k decreases-loop-k invariant-loop-s decreases-loop-s
+cast-found c = omega (arith, total-small c.before.loop-s.invariant.0)
 
-cast-looks : tie.Need-overflow-cast-looks invariant-loop2 decreases-loop2 invariant-loop decreases-loop
-cast-looks c = omega (arith, compared-small c.before.loop.invariant.0)
+cast-looks : tie.Need-overflow_cast-looks invariant-loop-k decreases-loop-k invariant-loop-s decreases-loop-s
+cast-looks c = omega (arith, compared-small c.before.loop-s.invariant.0)
 
-same_length : tie.Need-same-length invariant-loop2 decreases-loop2 invariant-loop decreases-loop
-same_length c = same-list c.before.loop.invariant.0
+same_length : tie.Need-shape_of-list invariant-loop-k decreases-loop-k invariant-loop-s decreases-loop-s
+same_length c = same-list c.before.loop-s.invariant.0
 
-returns-2 : tie.Need-returns-2 invariant-loop2 decreases-loop2 invariant-loop decreases-loop
-returns-2 c = keeps (past c.before.loop.invariant.0 c.loop-test.false) (allowed c.before.before).none (sym (received_none _))
+returns-2 : tie.Need-returns invariant-loop-k decreases-loop-k invariant-loop-s decreases-loop-s
+returns-2 c = keeps (past c.before.loop-s.invariant.0 c.loop-s-test.false) (allowed c.before.before).none (sym (received_none _))
 
 pub find_spec : {M : Type 1} → statement M
 find_spec =
     tie.close
     (tie.spec
-    invariant-loop2
-    decreases-loop2
-    invariant-loop
-    decreases-loop
+    invariant-loop-k
+    decreases-loop-k
+    invariant-loop-s
+    decreases-loop-s
     refused-requires
     returns
     loop-holds

@@ -4,11 +4,11 @@ use borrow.Author.Tests.{eq-eqb, ne_eqb}
 use Rattle.roles.proofs.may_retitle.Statement.{statement}
 use Rattle.roles.proofs.may_retitle.Tie as tie
 
-returns : tie.Need-returns
-returns c = rw (eq-eqb c.before.args.role 0 (omega (arith, c.if1.true)))
+returns : tie.Need-returns-then-role-eq0
+returns c = rw (eq-eqb c.before.args.role 0 (omega (arith, c.if-role-eq0.true)))
 
-returns-2 : tie.Need-returns-2
-returns-2 c = rw (ne_eqb c.before.args.role 0 (λ z. omega (arith, c.if1.false)))
+returns-2 : tie.Need-returns-else-role-eq0
+returns-2 c = rw (ne_eqb c.before.args.role 0 (λ z. omega (arith, c.if-role-eq0.false)))
 
-pub may-retitle-spec : {M : Type 1} → statement M
-may-retitle-spec = tie.close (tie.spec returns returns-2)
+pub may_retitle_spec : {M : Type 1} → statement M
+may_retitle_spec = tie.close (tie.spec returns returns-2)
