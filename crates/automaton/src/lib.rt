@@ -345,7 +345,7 @@ fn row_count(room: usize, w: usize, n: usize) -> usize
 }
 
 // The rows of an automaton: their width, and how many states have one.
-#[derive(Drop)]
+#[derive(Clone, Copy)]
 struct Shape {
     width: usize,
     count: usize,
@@ -441,7 +441,7 @@ fn bits_of(t: &[u16], s: usize) -> u64
 }
 
 // What one letter gives: the next state, and the number whose bits are the phrases that end with it.
-#[derive(Drop)]
+#[derive(Clone, Copy)]
 struct Letter {
     state: usize,
     ended: u64,
@@ -579,7 +579,7 @@ fn fits(page: u32, book: &[u8], starts: &[usize], lens: &[usize]) -> bool
 }
 
 // Whether the text was walked, and the letters read.
-#[derive(Drop)]
+#[derive(Clone, Copy)]
 pub struct Walked {
     pub done: bool,
     pub reads: usize,

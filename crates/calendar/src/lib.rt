@@ -14,7 +14,7 @@ const LAST_DAY: u32 = 36524;
 
 // The date of a day: a refusal number (0 for none), and the year, the month and the day of the month.
 #[repr(C)]
-#[derive(Drop)]
+#[derive(Clone, Copy)]
 pub struct CalendarDate {
     pub refusal: u32,
     pub year: u32,
@@ -23,7 +23,7 @@ pub struct CalendarDate {
 }
 
 // A year or a month that a day lies in, and how many of its days are over.
-#[derive(Drop)]
+#[derive(Clone, Copy)]
 struct Within {
     number: u32,
     days: u32,

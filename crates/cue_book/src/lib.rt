@@ -12,14 +12,14 @@ use matching::Answer;
 
 // A part of a book: where it starts, and how many bytes it has.
 #[repr(C)]
-#[derive(Drop)]
+#[derive(Clone, Copy)]
 pub struct Part {
     pub start: usize,
     pub len: usize,
 }
 
 // What reading a book for the title of one of its cues gives: the book's answer, and the part where the title stands.
-#[derive(Drop)]
+#[derive(Clone, Copy)]
 pub struct TitleRead {
     pub refusal: u32,
     pub number: u32,
@@ -28,7 +28,7 @@ pub struct TitleRead {
 }
 
 // What a walk over a whole book gives: the answer, how many cues are chosen, and the part where the wanted cue's title stands.
-#[derive(Drop)]
+#[derive(Clone, Copy)]
 struct WalkAnswer {
     refusal: u32,
     number: u32,

@@ -10,7 +10,7 @@ ghost use Rattle.cue_fields.specs.Field.{tag_of, allowed, number_in, mark_in, va
 ghost use Rattle.cue_fields.specs.Form.{optional, stands, DueRead};
 
 // Which field of a cue is due.
-#[derive(Drop)]
+#[derive(Clone, Copy)]
 pub enum Due {
     Phrase,
     Ordinal,
@@ -20,7 +20,7 @@ pub enum Due {
 }
 
 // What reading a field gives: its body stands from `start` up to `end`, which is the place after the field; or the refusal's number.
-#[derive(Drop)]
+#[derive(Clone, Copy)]
 pub enum FieldAnswer {
     Body { start: usize, end: usize },
     Refused(u32),

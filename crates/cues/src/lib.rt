@@ -11,14 +11,14 @@ ghost use Rattle.cues.specs.Rest.{rest_number, RestRead};
 use cue_fields::{Due, FieldAnswer};
 
 // The days on which a cue plays: always, or from a first day to a last one.
-#[derive(Drop)]
+#[derive(Clone, Copy)]
 pub enum Days {
     Always,
     Within { first: u32, last: u32 },
 }
 
 // Whether a cue says who may see it: it has no mark, and is open; it is marked as open; or it is for the house only.
-#[derive(Drop)]
+#[derive(Clone, Copy)]
 pub enum Mark {
     Unmarked,
     Open,
@@ -26,14 +26,14 @@ pub enum Mark {
 }
 
 // For which role and for which day cues are chosen.
-#[derive(Drop)]
+#[derive(Clone, Copy)]
 pub struct Choice {
     pub role: u32,
     pub day: u32,
 }
 
 // What reading a cue gives: its phrase and its title as the parts of the book where they stand, its ordinal, its days, its mark, and the place after it; or the refusal's number.
-#[derive(Drop)]
+#[derive(Clone, Copy)]
 pub enum CueAnswer {
     Cue {
         phrase: usize,
@@ -49,7 +49,7 @@ pub enum CueAnswer {
 }
 
 // What reading the fields behind a cue's title gives: its days, its mark, and the place after the cue; or the refusal's number.
-#[derive(Drop)]
+#[derive(Clone, Copy)]
 enum RestAnswer {
     Rest { days: Days, mark: Mark, end: usize },
     Refused(u32),

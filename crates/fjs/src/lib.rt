@@ -16,7 +16,7 @@ use matching::Finding;
 
 // What a find with a list of moves gives back: what a find does, and the full total of moves.
 #[repr(C)]
-#[derive(Drop)]
+#[derive(Clone, Copy)]
 pub struct MovesFinding {
     pub refusal: u32,
     pub total: u32,
@@ -25,7 +25,7 @@ pub struct MovesFinding {
 }
 
 // What a search found: how many occurrences, the comparisons made, and how many moves.
-#[derive(Drop)]
+#[derive(Clone, Copy)]
 struct Tally {
     total: usize,
     comparisons: usize,

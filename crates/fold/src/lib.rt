@@ -14,7 +14,7 @@ use page_15::PAGE_15;
 
 // What folding a text gives back: a refusal or 0, and the letters written.
 #[repr(C)]
-#[derive(Drop)]
+#[derive(Clone, Copy)]
 pub struct Folding {
     pub refusal: u32,
     pub number: usize,

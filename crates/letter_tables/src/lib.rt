@@ -8,7 +8,7 @@ ghost use Rattle.letter_tables.specs.BadCharacter.{last_table, sunday_made, hors
 ghost use Rattle.letter_tables.specs.Gaps.{gap_found};
 
 // A gap between a letter and the same letter before it: its width, and the position of the later letter, from 1.
-#[derive(Drop)]
+#[derive(Clone, Copy)]
 pub struct Gap {
     pub width: usize,
     pub letter: usize,

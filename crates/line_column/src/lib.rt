@@ -6,7 +6,7 @@ ghost use Rattle.std.specs.Prelude.{◌≡◌, ◌+◌, ◌-◌, ◌≤◌, ◌<
 ghost use Rattle.line_column.specs.LineColumn.{ends_line, ends_before, line_start, line_column_on, line_column_from};
 
 // A line and a column, both from 1.
-#[derive(Drop)]
+#[derive(Clone, Copy)]
 pub struct LineColumn {
     pub line: usize,
     pub column: usize,

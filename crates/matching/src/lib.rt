@@ -9,7 +9,7 @@ ghost use Rattle.matching.specs.Letters.{compared_down};
 
 // What a find gives back: a refusal number (0 for none), the full total of occurrences, and the letter comparisons made.
 #[repr(C)]
-#[derive(Drop)]
+#[derive(Clone, Copy)]
 pub struct Finding {
     pub refusal: u32,
     pub total: u32,
@@ -18,7 +18,7 @@ pub struct Finding {
 
 // What a call gives back that answers with one number: a refusal number (0 for none), and that number.
 #[repr(C)]
-#[derive(Drop)]
+#[derive(Clone, Copy)]
 pub struct Answer {
     pub refusal: u32,
     pub number: u32,

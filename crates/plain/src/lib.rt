@@ -15,7 +15,7 @@ use matching::Answer;
 
 // A field read: the refusal, or 0 with its body's start and length and the place after it. A refused one is 0 in all else.
 #[repr(C)]
-#[derive(Drop)]
+#[derive(Clone, Copy)]
 pub struct PlainField {
     pub refusal: u32,
     pub start: usize,
@@ -26,7 +26,7 @@ pub struct PlainField {
 // A cue read: the refusal, or 0 with its ordinal, its days, its mark, its phrase and its title as parts of the book, and the place after it. `dated` is 1 with the two days where the cue has dates; where it plays
 // always, these three are 0. `marked` is 1 where the cue says whether it is open, and `house` is 1 where it is for the house only. A refused one is 0 in all but its refusal.
 #[repr(C)]
-#[derive(Drop)]
+#[derive(Clone, Copy)]
 pub struct PlainCue {
     pub refusal: u32,
     pub ordinal: u32,
@@ -92,7 +92,7 @@ pub fn read_field(book: &[u8], place: usize, due: u32) -> PlainField
 }
 
 // A cue's days as they pass: 1 with the first and the last where it has dates, and 0 in all where it plays always.
-#[derive(Drop)]
+#[derive(Clone, Copy)]
 struct PlainDays {
     dated: u32,
     first: u32,
@@ -118,7 +118,7 @@ fn passed_days(days: Days) -> PlainDays
 }
 
 // A cue's mark as it passes: whether it has one, and whether it is for the house only.
-#[derive(Drop)]
+#[derive(Clone, Copy)]
 struct PlainMark {
     marked: u32,
     house: u32,

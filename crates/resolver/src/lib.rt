@@ -14,7 +14,7 @@ use line_column::LineColumn;
 
 // What resolving gives back: a refusal or 0, its number, and how many letters of the text were read.
 #[repr(C)]
-#[derive(Drop)]
+#[derive(Clone, Copy)]
 pub struct Resolving {
     pub refusal: u32,
     pub number: u32,
@@ -22,7 +22,7 @@ pub struct Resolving {
 }
 
 // The next cue that is chosen: the number that names it, its phrase as the part of the book where it stands, its ordinal, and the place after it.
-#[derive(Drop)]
+#[derive(Clone, Copy)]
 struct NextCue {
     number: usize,
     phrase: usize,
@@ -32,7 +32,7 @@ struct NextCue {
 }
 
 // A group as it was read from the book: how many cues it has, the number of the next cue that the role sees, and the place after them.
-#[derive(Drop)]
+#[derive(Clone, Copy)]
 struct CuesRead {
     count: usize,
     number: usize,
@@ -40,7 +40,7 @@ struct CuesRead {
 }
 
 // A group whose cues were looked for: how many it has, the number of the next cue that the role sees, the place after them, and the letters of the text that were read.
-#[derive(Drop)]
+#[derive(Clone, Copy)]
 struct GroupFound {
     count: usize,
     number: usize,
@@ -49,7 +49,7 @@ struct GroupFound {
 }
 
 // A group's entries as they were put: the first fault or 0, for how many cues they were put, and the last place with its line and column.
-#[derive(Drop)]
+#[derive(Clone, Copy)]
 struct EntriesPut {
     refusal: u32,
     count: usize,
@@ -59,7 +59,7 @@ struct EntriesPut {
 
 // A group that was resolved: the number of the next cue that the role sees, the place after the group, the letters of the text that were read, the first fault or 0, the number of the cue with the fault, for how many
 // cues entries were put, and the last place with its line and column.
-#[derive(Drop)]
+#[derive(Clone, Copy)]
 struct GroupResolved {
     next: usize,
     end: usize,

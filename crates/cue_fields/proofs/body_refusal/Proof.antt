@@ -9,19 +9,19 @@ use Rattle.matching.specs.Refusals.{first_met}
 use Rattle.cue_fields.proofs.body_refusal.Statement.{statement}
 use Rattle.cue_fields.proofs.body_refusal.Tie as tie
 
-returns : tie.Need-returns
+returns : tie.Need-returns-then-bytes-length
 unfolding first_met
-returns c = let a = c.before.before.args in rw (lt-ltb (length a.bytes.now) a.length c.if1.true)
+returns c = let a = c.args in rw (lt-ltb (length a.bytes.now) a.length c.if-bytes-length.true)
 
-slice-aggregate-value-refusal : tie.Need-slice-aggregate-value-refusal
-slice-aggregate-value-refusal c = let a = c.before.before.before.args in sym (length-take-le a.length a.bytes.now (omega (arith, c.before.if1.false)))
+slice-aggregate-value-refusal : tie.Need-slice_bounds-value_refusal-end
+slice-aggregate-value-refusal c = let a = c.args in sym (length-take-le a.length a.bytes.now (omega (arith, c.if-bytes-length.false)))
 
-value-refusal-requires : tie.Need-value-refusal-requires
+value-refusal-requires : tie.Need-value_refusal-requires
 value-refusal-requires c κs = search rules
 
-returns-2 : tie.Need-returns-2
+returns-2 : tie.Need-returns
 unfolding first_met
-returns-2 c = let a = c.before.before.before.before.args in rw (le-ltb (length a.bytes.now) a.length c.before.before.if1.false) c.value-refusal.ensures
+returns-2 c = let a = c.args in rw (le-ltb (length a.bytes.now) a.length c.if-bytes-length.false) c.value_refusal.ensures
 
-pub body-refusal-spec : {M : Type 1} → statement M
-body-refusal-spec = tie.close (tie.spec returns slice-aggregate-value-refusal value-refusal-requires returns-2)
+pub body_refusal_spec : {M : Type 1} → statement M
+body_refusal_spec = tie.close (tie.spec returns slice-aggregate-value-refusal value-refusal-requires returns-2)

@@ -5,26 +5,26 @@ use Rattle.calendar.specs.Calendar.{days_refusal}
 use Rattle.cue_fields.proofs.dates_refusal.Statement.{statement}
 use Rattle.cue_fields.proofs.dates_refusal.Tie as tie
 
-number-at-requires : tie.Need-number-at-requires
+number-at-requires : tie.Need-number_at-first-requires
 number-at-requires c κs = search rules
 
-cast-first : tie.Need-overflow-cast-first
+cast-first : tie.Need-overflow_cast-first
 cast-first c = search rules
 
-number-from-requires : tie.Need-number-from-requires
+number-from-requires : tie.Need-number_from-last-requires
 number-from-requires c κs = search rules
 
-cast-last : tie.Need-overflow-cast-last
+cast-last : tie.Need-overflow_cast-last
 cast-last c = search rules
 
-days-refused-requires : tie.Need-days-refused-requires
+days-refused-requires : tie.Need-days_refused-requires
 days-refused-requires c κs = search rules
 
 returns : tie.Need-returns
 unfolding days_refusal
 returns c =
     let l = c.before in
-    c.days-refused.ensures ∙ ap₂ days_refusal l.before.number_at.ensures.0 l.number-from.ensures.0
+    c.days_refused.ensures ∙ ap₂ days_refusal l.number_at-first.ensures.0 l.number_from-last.ensures.0
 
-pub dates-refusal-spec : {M : Type 1} → statement M
-dates-refusal-spec = tie.close (tie.spec number-at-requires cast-first number-from-requires cast-last days-refused-requires returns)
+pub dates_refusal_spec : {M : Type 1} → statement M
+dates_refusal_spec = tie.close (tie.spec number-at-requires cast-first number-from-requires cast-last days-refused-requires returns)

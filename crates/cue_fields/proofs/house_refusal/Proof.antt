@@ -7,16 +7,16 @@ use Rattle.cue_fields.specs.Field.{mark_in}
 use Rattle.cue_fields.proofs.house_refusal.Statement.{statement}
 use Rattle.cue_fields.proofs.house_refusal.Tie as tie
 
-mark-at-requires : tie.Need-mark-at-requires
+mark-at-requires : tie.Need-mark_at-requires
 mark-at-requires c κs = search rules
 
-returns : tie.Need-returns
+returns : tie.Need-returns-then-mark_at-gt1
 unfolding first_met
-returns c = let l = c.before.before.before.args.body.now in rw (lt-ltb 1 (mark_in l) (omega (arith, c.before.mark-at.ensures, c.if1.true)))
+returns c = let l = c.args.body.now in rw (lt-ltb 1 (mark_in l) (omega (arith, c.mark_at.ensures, c.if-mark_at-gt1.true)))
 
-returns-2 : tie.Need-returns-2
+returns-2 : tie.Need-returns
 unfolding first_met
-returns-2 c = let l = c.before.before.before.args.body.now in rw (le-ltb 1 (mark_in l) (omega (arith, c.before.mark-at.ensures, c.if1.false)))
+returns-2 c = let l = c.args.body.now in rw (le-ltb 1 (mark_in l) (omega (arith, c.mark_at.ensures, c.if-mark_at-gt1.false)))
 
-pub house-refusal-spec : {M : Type 1} → statement M
-house-refusal-spec = tie.close (tie.spec mark-at-requires returns returns-2)
+pub house_refusal_spec : {M : Type 1} → statement M
+house_refusal_spec = tie.close (tie.spec mark-at-requires returns returns-2)

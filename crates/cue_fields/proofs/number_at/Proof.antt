@@ -15,47 +15,47 @@ past [] i h = refl
 past (x ∷ l) zero h = absurd (omega arith)
 past (x ∷ l) (suc i) h = past l i (omega arith)
 
-returns : tie.Need-returns
+returns : tie.Need-returns-then-bytes-eq0
 unfolding number_in
-returns c = let l = c.before.args.bytes.now in (omega (arith, past l 0 (omega arith), past l 1 (omega arith)), omega arith)
+returns c = let l = c.args.bytes.now in (omega (arith, past l 0 (omega arith), past l 1 (omega arith)), omega arith)
 
-shared-slice-read-result : tie.Need-shared-slice-read-result
+shared-slice-read-result : tie.Need-bounds-bytes-0
 shared-slice-read-result c = search rules
 
-cast-result : tie.Need-overflow-cast-result
-cast-result c = omega (arith, c.shared-slice-known.given 0, c.shared-slice-known.given 1)
+cast-result : tie.Need-overflow_cast-result
+cast-result c = omega (arith, c.shared_slice_known-1.given 0, c.shared_slice_known-1.given 1)
 
-mul-result : tie.Need-overflow-mul-result
-mul-result c = omega (arith, c.shared-slice-known.given 0, c.shared-slice-known.given 1)
+mul-result : tie.Need-overflow_mul-result
+mul-result c = omega (arith, c.shared_slice_known-1.given 0, c.shared_slice_known-1.given 1)
 
-returns-2 : tie.Need-returns-2
+returns-2 : tie.Need-returns-then-bytes-eq1
 unfolding number_in
-returns-2 c = let l = c.before.before.before.args.bytes.now in (omega (arith, past l 1 (omega arith)), omega (arith, c.shared-slice-known.given 0, c.shared-slice-known.given 1))
+returns-2 c = let l = c.args.bytes.now in (omega (arith, past l 1 (omega arith)), omega (arith, c.shared_slice_known-1.given 0, c.shared_slice_known-1.given 1))
 
-shared-slice-read-result-2 : tie.Need-shared-slice-read-result-2
+shared-slice-read-result-2 : tie.Need-bounds-bytes-0-2
 shared-slice-read-result-2 c = search rules
 
-cast-result-2 : tie.Need-overflow-cast-result-2
-cast-result-2 c = omega (arith, c.shared-slice-known2.given 0, c.shared-slice-known2.given 1)
+cast-result-2 : tie.Need-overflow_cast-result-2
+cast-result-2 c = omega (arith, c.shared_slice_known-2-1.given 0, c.shared_slice_known-2-1.given 1)
 
-mul-result-2 : tie.Need-overflow-mul-result-2
-mul-result-2 c = omega (arith, c.shared-slice-known2.given 0, c.shared-slice-known2.given 1)
+mul-result-2 : tie.Need-overflow_mul-result-2
+mul-result-2 c = omega (arith, c.shared_slice_known-2-1.given 0, c.shared_slice_known-2-1.given 1)
 
-shared-slice-read-result-3 : tie.Need-shared-slice-read-result-3
+shared-slice-read-result-3 : tie.Need-bounds-bytes-1
 shared-slice-read-result-3 c = search rules
 
-cast-result-3 : tie.Need-overflow-cast-result-3
-cast-result-3 c = omega (arith, c.shared-slice-known3.given 0, c.shared-slice-known3.given 1)
+cast-result-3 : tie.Need-overflow_cast-result-3
+cast-result-3 c = omega (arith, c.shared_slice_known-3-1.given 0, c.shared_slice_known-3-1.given 1)
 
-add-result : tie.Need-overflow-add-result
-add-result c = omega (arith, c.shared-slice-known3.given 0, c.shared-slice-known3.given 1)
+add-result : tie.Need-overflow_add-result
+add-result c = omega (arith, c.shared_slice_known-3-1.given 0, c.shared_slice_known-3-1.given 1)
 
-returns-3 : tie.Need-returns-3
+returns-3 : tie.Need-returns
 unfolding number_in
-returns-3 c = (refl, omega (arith, c.shared-slice-known3.given 0, c.shared-slice-known3.given 1))
+returns-3 c = (refl, omega (arith, c.shared_slice_known-3-1.given 0, c.shared_slice_known-3-1.given 1))
 
-pub number-at-spec : {M : Type 1} → statement M
-number-at-spec =
+pub number_at_spec : {M : Type 1} → statement M
+number_at_spec =
     tie.close
     (tie.spec
     returns

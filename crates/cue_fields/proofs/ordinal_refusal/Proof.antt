@@ -7,16 +7,16 @@ use Rattle.cue_fields.specs.Field.{number_in}
 use Rattle.cue_fields.proofs.ordinal_refusal.Statement.{statement}
 use Rattle.cue_fields.proofs.ordinal_refusal.Tie as tie
 
-number-at-requires : tie.Need-number-at-requires
+number-at-requires : tie.Need-number_at-requires
 number-at-requires c κs = search rules
 
-returns : tie.Need-returns
+returns : tie.Need-returns-then-number_at-eq0
 unfolding first_met
-returns c = let l = c.before.before.before.args.body.now in rw (eq-eqb (number_in l) 0 (omega (arith, c.before.number_at.ensures.0, c.if1.true)))
+returns c = let l = c.args.body.now in rw (eq-eqb (number_in l) 0 (omega (arith, c.number_at.ensures.0, c.if-number_at-eq0.true)))
 
-returns-2 : tie.Need-returns-2
+returns-2 : tie.Need-returns
 unfolding first_met
-returns-2 c = let l = c.before.before.before.args.body.now in rw (ne_eqb (number_in l) 0 (λ z. omega (arith, c.before.number_at.ensures.0, c.if1.false)))
+returns-2 c = let l = c.args.body.now in rw (ne_eqb (number_in l) 0 (λ z. omega (arith, c.number_at.ensures.0, c.if-number_at-eq0.false)))
 
-pub ordinal-refusal-spec : {M : Type 1} → statement M
-ordinal-refusal-spec = tie.close (tie.spec number-at-requires returns returns-2)
+pub ordinal_refusal_spec : {M : Type 1} → statement M
+ordinal_refusal_spec = tie.close (tie.spec number-at-requires returns returns-2)

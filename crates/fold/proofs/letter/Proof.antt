@@ -9,8 +9,8 @@ use Rattle.fold.proofs.letter.Statement.{statement}
 use Rattle.fold.proofs.letter.Tie as tie
 
 -- there is such a page
-some-page : (e : tie.Else-not-is_page) → is_page e.before.before.args.page ≡ true
-some-page e = sym e.before.is_page.ensures ∙ not-false e.before.is_page.result e.if-not-is_page.false-raw
+some-page : (e : tie.Else-not-is_page) → is_page e.args.page ≡ true
+some-page e = sym e.is_page.ensures ∙ not-false e.is_page.result e.if-not-is_page.false-raw
 
 is-page-requires : tie.Need-is_page-requires
 is-page-requires c κs = search rules
@@ -19,7 +19,7 @@ returns : tie.Need-returns-then-not-is_page
 unfolding letter_answer
 returns c =
     let p = c.before in
-    let no-page : is_page p.before.args.page ≡ false = sym p.is_page.ensures ∙ not-true p.is_page.result c.if-not-is_page.true-raw in
+    let no-page : is_page p.args.page ≡ false = sym p.is_page.ensures ∙ not-true p.is_page.result c.if-not-is_page.true-raw in
     rw no-page
 
 on-page-15-requires : tie.Need-on_page_15-requires
@@ -30,7 +30,7 @@ cast-t6 c = search rules
 
 returns-2 : tie.Need-returns-then-page-eq15
 unfolding letter_answer
-returns-2 c = let e = c.before.before in rw (some-page e, c.on_page_15.ensures, on-15 c.before.if-page-eq15.true)
+returns-2 c = let e = c.before.before in rw (some-page e, c.on_page_15.ensures, on-15 c.if-page-eq15.true)
 
 on-page-1-requires : tie.Need-on_page_1-requires
 on-page-1-requires c κs = search rules
@@ -40,7 +40,7 @@ cast-t8 c = search rules
 
 returns-3 : tie.Need-returns
 unfolding letter_answer
-returns-3 c = let e = c.before.before in rw (some-page e, c.on_page_1.ensures, not-on-15 c.before.if-page-eq15.false)
+returns-3 c = let e = c.before.before in rw (some-page e, c.on_page_1.ensures, not-on-15 c.if-page-eq15.false)
 
 pub letter_spec : {M : Type 1} → statement M
 letter_spec = tie.close (tie.spec is-page-requires returns on-page-15-requires cast-t6 returns-2 on-page-1-requires cast-t8 returns-3)

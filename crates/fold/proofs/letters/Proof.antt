@@ -17,10 +17,10 @@ abbrev start : tie.After-is_page → tie.Start
 start p = p.before.before.before
 
 no-page : (c : tie.Then-not-is_page) → is_page (start c.before).args.page ≡ false
-no-page c = sym c.before.is_page.ensures ∙ not-true c.before.is_page.result c.if-not-is_page.true-raw
+no-page c = sym c.is_page.ensures ∙ not-true c.is_page.result c.if-not-is_page.true-raw
 
 some-page : (e : tie.Else-not-is_page) → is_page (start e.before).args.page ≡ true
-some-page e = sym e.before.is_page.ensures ∙ not-false e.before.is_page.result e.if-not-is_page.false-raw
+some-page e = sym e.is_page.ensures ∙ not-false e.is_page.result e.if-not-is_page.false-raw
 
 -- what a page's loop leaves and gives, by the page's fold
 by-fold : {page : ℕ} {f : ℕ → ℕ} {source target target' : List ℕ} {r : ℕ} → is_page page ≡ true → fold_on page ≡ f → r ≡ min (length source) (length target) → target' ≡ received target (map f source)

@@ -7,7 +7,7 @@ use Rattle.fold.specs.Fold.{folded15}
 use Rattle.fold.proofs.on_page_15.Statement.{statement}
 use Rattle.fold.proofs.on_page_15.Tie as tie
 
-array-read-result : tie.Need-array-read-result
+array-read-result : tie.Need-bounds-byte
 array-read-result c = search rules
 
 returns : tie.Need-returns

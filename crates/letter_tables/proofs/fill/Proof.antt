@@ -45,7 +45,7 @@ slice-relend-prefix-set-all : tie.Need-slice_bounds-set_all-end invariant-loop-q
 slice-relend-prefix-set-all c = omega arith
 
 slice-aggregate-set-all : tie.Need-slice_bounds-set_all-end-2 invariant-loop-q decreases-loop-q
-slice-aggregate-set-all c = sym (length-take-le _ c.before.before.before.args.table.now (omega arith))
+slice-aggregate-set-all c = sym (length-take-le _ c.args.table.now (omega arith))
 
 set-all-requires : tie.Need-set_all-requires invariant-loop-q decreases-loop-q
 set-all-requires c κs = tt
@@ -61,7 +61,7 @@ loop-holds : tie.Need-loop-q-init invariant-loop-q decreases-loop-q
 loop-holds c =
     let k = c.before.before in
     let a = (start k).args in
-    (ruled-anew (begin a.pattern.now a.base a.table-1.now (omega arith) k.set_all.ensures), omega arith)
+    (ruled-anew (begin a.pattern.now a.base a.table.now (omega arith) k.set_all.ensures), omega arith)
 
 sub-table : tie.Need-overflow_sub-table invariant-loop-q decreases-loop-q
 sub-table c = omega arith
@@ -76,10 +76,10 @@ shared-slice-read-table : tie.Need-bounds-pattern-q invariant-loop-q decreases-l
 shared-slice-read-table c = omega arith
 
 cast-table-2 : tie.Need-overflow_cast-table-in-loop-q invariant-loop-q decreases-loop-q
-cast-table-2 c = omega (arith, c.shared_slice_known-in-loop-q-1.given c.before.before.loop-q.q)
+cast-table-2 c = omega (arith, c.shared_slice_known-in-loop-q-1.given c.loop-q.q)
 
 mul-table : tie.Need-offset_bounds-table-pattern invariant-loop-q decreases-loop-q
-mul-table c = omega (arith, c.shared_slice_known-in-loop-q-1.given c.before.before.loop-q.q)
+mul-table c = omega (arith, c.shared_slice_known-in-loop-q-1.given c.loop-q.q)
 
 slice-write-table : tie.Need-bounds-table-pattern invariant-loop-q decreases-loop-q
 slice-write-table c = let l = c.before.before in omega (arith, c.shared_slice_known-in-loop-q-1.given l.loop-q.q, l.loop-q.invariant.0.room)
@@ -103,7 +103,7 @@ same_length c =
     let l = c.before in
     let k = begun l in
     let a = (start k).args in
-    l.loop-q.invariant.0.long ∙ (begin a.pattern.now a.base a.table-1.now (omega arith) k.set_all.ensures).long
+    l.loop-q.invariant.0.long ∙ (begin a.pattern.now a.base a.table.now (omega arith) k.set_all.ensures).long
 
 returns : tie.Need-returns invariant-loop-q decreases-loop-q
 returns c =
@@ -112,8 +112,8 @@ returns c =
     let a = (start k).args in
     let P = a.pattern.now in
     let done : l.loop-q.q ≡ a.count = omega arith in
-    ruled-is (ruled-since (begin P a.base a.table-1.now (omega arith) k.set_all.ensures) l.loop-q.invariant.0)
-    ∙ ap (λ (n : ℕ). last_table P a.base n ++ drop 256 a.table-1.now) done
+    ruled-is (ruled-since (begin P a.base a.table.now (omega arith) k.set_all.ensures) l.loop-q.invariant.0)
+    ∙ ap (λ (n : ℕ). last_table P a.base n ++ drop 256 a.table.now) done
 
 pub fill_spec : {M : Type 1} → statement M
 fill_spec =

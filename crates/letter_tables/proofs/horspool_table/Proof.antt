@@ -12,14 +12,14 @@ use Rattle.letter_tables.proofs.horspool_table.Statement.{statement}
 use Rattle.letter_tables.proofs.horspool_table.Tie as tie
 
 -- the letters before the last, of which there are none where the pattern is empty
-counted : (j : tie.Joined-m-gt0) → j.if-m-gt0.count ≡ length j.before.before.before.before.before.args.pattern.now - 1
+counted : (j : tie.Joined-m-gt0) → j.if-m-gt0.count ≡ length j.args.pattern.now - 1
 counted j = ⊎_elim (λ w. omega arith) (λ w. omega arith) j.if-m-gt0.branch-raw
 
 returns : tie.Need-returns-then-table-lt256
-returns c = let a = c.before.before.before.args in made-short-by (length a.pattern.now) 256 (horspool_entry a.pattern.now) a.table-1.now (omega arith)
+returns c = let a = c.args in made-short-by (length a.pattern.now) 256 (horspool_entry a.pattern.now) a.table.now (omega arith)
 
 returns-2 : tie.Need-returns-then-m-gt65535
-returns-2 c = let a = c.before.before.before.before.args in made-long-by (length a.pattern.now) 256 (horspool_entry a.pattern.now) a.table-1.now (omega arith) (omega arith)
+returns-2 c = let a = c.args in made-long-by (length a.pattern.now) 256 (horspool_entry a.pattern.now) a.table.now (omega arith) (omega arith)
 
 sub-count : tie.Need-overflow_sub-count
 sub-count c = search rules
@@ -34,10 +34,10 @@ returns-3 : tie.Need-returns
 returns-3 c =
     let f = c.before.before in
     let j = f.before.before in
-    let a = j.before.before.before.before.before.args in
+    let a = j.args in
     let P = a.pattern.now in
-    f.fill.ensures ∙ ap (λ (n : ℕ). last_table P (length P) n ++ drop 256 a.table-1.now) (counted j)
-    ∙ sym (made_by (length P) 256 (horspool_entry P) a.table-1.now (omega arith) (omega arith))
+    f.fill.ensures ∙ ap (λ (n : ℕ). last_table P (length P) n ++ drop 256 a.table.now) (counted j)
+    ∙ sym (made_by (length P) 256 (horspool_entry P) a.table.now (omega arith) (omega arith))
 
 pub horspool_table_spec : {M : Type 1} → statement M
 horspool_table_spec =

@@ -10,10 +10,10 @@ use Rattle.letter_tables.proofs.sunday_table.Statement.{statement}
 use Rattle.letter_tables.proofs.sunday_table.Tie as tie
 
 returns : tie.Need-returns-then-table-lt256
-returns c = let a = c.before.before.before.args in made-short-by (length a.pattern.now + 1) 256 (sunday_entry a.pattern.now) a.table-1.now (omega arith)
+returns c = let a = c.args in made-short-by (length a.pattern.now + 1) 256 (sunday_entry a.pattern.now) a.table.now (omega arith)
 
 returns-2 : tie.Need-returns-then-m-gt65534
-returns-2 c = let a = c.before.before.before.before.args in made-long-by (length a.pattern.now + 1) 256 (sunday_entry a.pattern.now) a.table-1.now (omega arith) (omega arith)
+returns-2 c = let a = c.args in made-long-by (length a.pattern.now + 1) 256 (sunday_entry a.pattern.now) a.table.now (omega arith) (omega arith)
 
 add-fill : tie.Need-overflow_add-m
 add-fill c = search rules
@@ -27,8 +27,8 @@ same_length c = search rules
 returns-3 : tie.Need-returns
 returns-3 c =
     let f = c.before.before in
-    let a = f.before.before.before.before.before.before.args in
-    f.fill.ensures ∙ sym (made_by (length a.pattern.now + 1) 256 (sunday_entry a.pattern.now) a.table-1.now (omega arith) (omega arith))
+    let a = f.args in
+    f.fill.ensures ∙ sym (made_by (length a.pattern.now + 1) 256 (sunday_entry a.pattern.now) a.table.now (omega arith) (omega arith))
 
 pub sunday_table_spec : {M : Type 1} → statement M
 sunday_table_spec =

@@ -71,41 +71,41 @@ module _ {P before : List ℕ} {q width letter : ℕ} (p : Passed P before q wid
       passed (w ∙ p.width_is ∙ sym (widest-old P q narrow)) (l ∙ p.letter-is ∙ sym (widest_at-old P q narrow))
 
 returns : tie.Need-returns-then-m-gt65535 invariant-loop-q decreases-loop-q
-returns c = sym (found_none c.before.args.pattern.now c.if-m-gt65535.true)
+returns c = sym (found_none c.args.pattern.now c.if-m-gt65535.true)
 
 loop-holds : tie.Need-loop-q-init invariant-loop-q decreases-loop-q
-loop-holds c = begin c.before.args.pattern.now
+loop-holds c = begin c.args.pattern.now
 
 -- the next letter is a byte
-byte : (c : tie.After-shared_slice_known-1 invariant-loop-q decreases-loop-q) → let l = c.before.before in get_or l.before.before.args.pattern.now l.loop-q.q 0 < 256
-byte c = omega (arith, c.shared_slice_known-1.given c.before.before.loop-q.q)
+byte : (c : tie.After-shared_slice_known-1 invariant-loop-q decreases-loop-q) → get_or c.args.pattern.now c.loop-q.q 0 < 256
+byte c = omega (arith, c.shared_slice_known-1.given c.loop-q.q)
 
 shared-slice-read-c : tie.Need-bounds-pattern-q invariant-loop-q decreases-loop-q
 shared-slice-read-c c = omega arith
 
 cast-c : tie.Need-overflow_cast-c invariant-loop-q decreases-loop-q
-cast-c c = omega (arith, byte c)
+cast-c c = omega (arith, c.shared_slice_known-1.given c.loop-q.q)
 
 add-gap : tie.Need-overflow_add-gap invariant-loop-q decreases-loop-q
 add-gap c = omega arith
 
 mul-gap : tie.Need-offset_bounds-before-c invariant-loop-q decreases-loop-q
-mul-gap c = omega (arith, byte c)
+mul-gap c = omega (arith, c.shared_slice_known-1.given c.loop-q.q)
 
 array-read-gap : tie.Need-bounds-before-c invariant-loop-q decreases-loop-q
-array-read-gap c = byte c
+array-read-gap c = omega (arith, c.shared_slice_known-1.given c.loop-q.q)
 
 cast-gap : tie.Need-overflow_cast-gap invariant-loop-q decreases-loop-q
-cast-gap c = let l = c.before.before in omega (arith, last-le l.loop-q.invariant (omega arith) (byte c), l.before.if-m-gt65535.false)
+cast-gap c = let l = c.before.before in omega (arith, last-le l.loop-q.invariant (omega arith) (byte c), l.if-m-gt65535.false)
 
 sub-gap : tie.Need-overflow_sub-gap invariant-loop-q decreases-loop-q
-sub-gap c = omega (arith, last-le c.before.before.loop-q.invariant (omega arith) (byte c))
+sub-gap c = omega (arith, last-le c.loop-q.invariant (omega arith) (byte c))
 
 add-q : tie.Need-overflow_add-q invariant-loop-q decreases-loop-q
 add-q c = omega arith
 
 cast-before : tie.Need-overflow_cast-before invariant-loop-q decreases-loop-q
-cast-before c = omega (arith, c.before.before.before.before.if-m-gt65535.false)
+cast-before c = omega (arith, c.if-m-gt65535.false)
 
 mul-before : tie.Need-offset_bounds-before-c-in-loop-q invariant-loop-q decreases-loop-q
 mul-before c = omega (arith, byte c.before)
@@ -118,16 +118,16 @@ loop-less c = omega arith
 
 loop-again : tie.Need-loop-q-preserved invariant-loop-q decreases-loop-q
 loop-again c =
-    let p = c.before.before.before.loop-q.invariant in
+    let p = c.loop-q.invariant in
     let b = byte c.before in
-    ⊎_elim (λ w. wider p (omega arith) b (omega (arith, w.0.true)) (omega (arith, w.1)) w.2) (λ w. narrower p (omega arith) b (omega (arith, w.0.false)) w.1 w.2) c.if-width-gap.branch-raw
+    ⊎_elim (λ w. wider p (omega arith) b (omega (arith, w.if-width-gap.true)) (omega (arith, w.width-is)) w.letter-is) (λ w. narrower p (omega arith) b (omega (arith, w.if-width-gap.false)) w.width-is w.letter-is) c.if-width-gap.branch-raw
 
 returns-2 : tie.Need-returns invariant-loop-q decreases-loop-q
 returns-2 c =
     let l = c.before in
-    let P = l.before.before.args.pattern.now in
+    let P = l.args.pattern.now in
     let done : l.loop-q.q ≡ length P = omega (arith, l.loop-q.invariant.low) in
-    rw (l.loop-q.invariant.width_is, l.loop-q.invariant.letter-is, done) (sym (found-widest P l.before.if-m-gt65535.false))
+    rw (l.loop-q.invariant.width_is, l.loop-q.invariant.letter-is, done) (sym (found-widest P l.if-m-gt65535.false))
 
 pub widest_gap_spec : {M : Type 1} → statement M
 widest_gap_spec =
