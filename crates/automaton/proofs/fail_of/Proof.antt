@@ -9,59 +9,59 @@ use Rattle.automaton.proofs.fail_of.Statement.{statement}
 use Rattle.automaton.proofs.fail_of.Tie as tie
 use Rattle.automaton.proofs.row_step.Reads as row-step-reads
 
-mul-parent : tie.Need-overflow-mul-parent
+mul-parent : tie.Need-overflow_mul-parent
 mul-parent c = search rules
 
-add-parent : tie.Need-overflow-add-parent
+add-parent : tie.Need-overflow_add-parent
 add-parent c = search rules
 
-mul-parent-2 : tie.Need-overflow-mul-parent-2
+mul-parent-2 : tie.Need-offset_bounds-t-x
 mul-parent-2 c = search rules
 
-shared-slice-read-parent : tie.Need-shared-slice-read-parent
+shared-slice-read-parent : tie.Need-bounds-t-x
 shared-slice-read-parent c = search rules
 
-cast-parent : tie.Need-overflow-cast-parent
-cast-parent c = omega (arith, c.shared-slice-known2.given (8 * c.before.before.args.x + 3))
+cast-parent : tie.Need-overflow_cast-parent
+cast-parent c = omega (arith, c.shared_slice_known-2-1.given (8 * c.args.x + 3))
 
-returns : tie.Need-returns
-returns c = λ ps names l _ h. failed-root l c.before.before.before.requires.above h c.if1.true
+returns : tie.Need-returns-then-parent-eq0
+returns c = λ ps names l _ h. failed-root l c.requires.above h c.if-parent-eq0.true
 
-mul-row-step : tie.Need-overflow-mul-row-step
-mul-row-step c = let s = c.before.before.before in let p = s.requires in omega (arith, parent-below p.linking p.above p.inside, p.linking.linked.trie.room, s.well-formed.0.1)
+mul-row-step : tie.Need-overflow_mul-parent-2
+mul-row-step c = let s = c.before.before.before in let p = s.requires in omega (arith, parent-below p.linking p.above p.inside, p.linking.linked.trie.room, s.well_formed.0.1)
 
-add-row-step : tie.Need-overflow-add-row-step
-add-row-step c = let s = c.before.before.before in let p = s.requires in omega (arith, parent-below p.linking p.above p.inside, p.linking.linked.trie.room, s.well-formed.0.1)
+add-row-step : tie.Need-overflow_add-parent-2
+add-row-step c = let s = c.before.before.before in let p = s.requires in omega (arith, parent-below p.linking p.above p.inside, p.linking.linked.trie.room, s.well_formed.0.1)
 
-mul-row-step-2 : tie.Need-overflow-mul-row-step-2
-mul-row-step-2 c = let s = c.before.before.before in let p = s.requires in omega (arith, parent-below p.linking p.above p.inside, p.linking.linked.trie.room, s.well-formed.0.1)
+mul-row-step-2 : tie.Need-offset_bounds-t-parent
+mul-row-step-2 c = let s = c.before.before.before in let p = s.requires in omega (arith, parent-below p.linking p.above p.inside, p.linking.linked.trie.room, s.well_formed.0.1)
 
-shared-slice-read-row-step : tie.Need-shared-slice-read-row-step
-shared-slice-read-row-step c = let s = c.before.before.before.before in let p = s.requires in omega (arith, parent-below p.linking p.above p.inside, p.linking.linked.trie.room, s.well-formed.0.1)
+shared-slice-read-row-step : tie.Need-bounds-t-parent
+shared-slice-read-row-step c = let s = c.before.before.before.before in let p = s.requires in omega (arith, parent-below p.linking p.above p.inside, p.linking.linked.trie.room, s.well_formed.0.1)
 
-cast-row-step : tie.Need-overflow-cast-row-step
-cast-row-step c = let x = c.before.before.before.before.args.x in omega (arith, c.shared-slice-known3.given (8 * get_or c.before.before.before.before.args.t.now (8 * x + 3) 0 + 3))
+cast-row-step : tie.Need-overflow_cast-t
+cast-row-step c = let x = c.args.x in omega (arith, c.shared_slice_known-3-1.given (8 * get_or c.args.t.now (8 * x + 3) 0 + 3))
 
-mul-row-step-3 : tie.Need-overflow-mul-row-step-3
+mul-row-step-3 : tie.Need-overflow_mul-x
 mul-row-step-3 c = search rules
 
-mul-row-step-4 : tie.Need-overflow-mul-row-step-4
+mul-row-step-4 : tie.Need-offset_bounds-t-x-2
 mul-row-step-4 c = search rules
 
-shared-slice-read-row-step-2 : tie.Need-shared-slice-read-row-step-2
+shared-slice-read-row-step-2 : tie.Need-bounds-t-x-2
 shared-slice-read-row-step-2 c = search rules
 
-row-step-requires : tie.Need-row-step-requires
-row-step-requires c κs = let p = c.before.before.before.before.before.requires in stepping p.linking p.above p.inside c.before.before.if1.false p.rows p.some p.byte
+row-step-requires : tie.Need-row_step-requires
+row-step-requires c κs = let p = c.requires in stepping p.linking p.above p.inside c.if-parent-eq0.false p.rows p.some p.byte
 
-returns-2 : tie.Need-returns-2
+returns-2 : tie.Need-returns
 returns-2 c = λ ps names l rows h.
-    let p = c.before.before.before.before.before.before.requires in
-    let left = c.before.before.before.if1.false in
-    failed-step l p.above h left (rw c.Row-step.ensures (state-leads _ l.linked p.some rows (link-below l p.above h left) p.byte))
+    let p = c.requires in
+    let left = c.if-parent-eq0.false in
+    failed-step l p.above h left (rw c.row_step.ensures (state-leads _ l.linked p.some rows (link-below l p.above h left) p.byte))
 
-pub fail-of-spec : {M : Type 1} → statement M
-fail-of-spec =
+pub fail_of_spec : {M : Type 1} → statement M
+fail_of_spec =
     tie.close
     (tie.spec
     mul-parent

@@ -23,58 +23,58 @@ wide a b e h = omega arith
 nonempty : {ps names : List (List ℕ)} {t : List ℕ} {n : ℕ} → Linking ps names 1 t → length names ≡ n → 1 ≤ n
 nonempty l e = omega (arith, l.linked.trie.some)
 
-classes-requires : tie.Need-classes-requires
+classes-requires : tie.Need-classes-w-requires
 classes-requires c κs = search rules
 
-sub-row-count : tie.Need-overflow-sub-row-count
+sub-row-count : tie.Need-overflow_sub-t
 sub-row-count c = search rules
 
-row-count-requires : tie.Need-row-count-requires
+row-count-requires : tie.Need-row_count-count-requires
 row-count-requires c κs = search rules
 
-base-row-requires : tie.Need-base-row-requires
+base-row-requires : tie.Need-base_row-requires
 base-row-requires c κs = search rules
 
 overlay-requires : tie.Need-overlay-requires
 overlay-requires c κs =
-    let p = c.before.before.before.before.before.before.before.before.before.before.before.requires in
-    let k = c.before.before.before.before.before.before.before.before.classes in
-    let q = c.before.before.before.before.before.row_count.ensures in
-    let room = fits q.1.0 k.auto.0 p.room in
-    let some = q.1.1 (nonempty p.linking p.count) (wide k.ensures.few p.few k.auto.0 p.room) in
-    (p.names, root-rowable p.linking p.count p.few p.bytes k.ensures room some c.before.before.before.base-row.ensures)
+    let p = c.requires in
+    let k = c.classes-w in
+    let q = c.row_count-count.ensures in
+    let room = fits q.1.0 k.auto.t p.room in
+    let some = q.1.1 (nonempty p.linking p.count) (wide k.ensures.few p.few k.auto.t p.room) in
+    (p.names, root-rowable p.linking p.count p.few p.bytes k.ensures room some c.base_row.ensures)
 
-link-rows-requires : tie.Need-link-rows-requires
+link-rows-requires : tie.Need-link_rows-requires
 link-rows-requires c κs =
-    let p = c.before.before.before.before.before.before.before.before.before.before.before.before.before.before.before.requires in
-    let k = c.before.before.before.before.before.before.before.before.before.before.before.before.classes in
-    let q = c.before.before.before.before.before.before.before.before.before.row_count.ensures in
-    let room = fits q.1.0 k.auto.0 p.room in
-    let some = q.1.1 (nonempty p.linking p.count) (wide k.ensures.few p.few k.auto.0 p.room) in
-    (some, (p.phrases, (p.names, making-first p.linking p.count p.few p.bytes k.ensures room some c.before.before.before.before.before.before.before.base-row.ensures q.0 (c.before.before.before.overlay.ensures p.names (root-rowable p.linking p.count p.few p.bytes k.ensures room some c.before.before.before.before.before.before.before.base-row.ensures)))))
+    let p = c.requires in
+    let k = c.classes-w in
+    let q = c.row_count-count.ensures in
+    let room = fits q.1.0 k.auto.t p.room in
+    let some = q.1.1 (nonempty p.linking p.count) (wide k.ensures.few p.few k.auto.t p.room) in
+    (some, (p.phrases, (p.names, making-first p.linking p.count p.few p.bytes k.ensures room some c.base_row.ensures q.0 (c.overlay.ensures p.names (root-rowable p.linking p.count p.few p.bytes k.ensures room some c.base_row.ensures)))))
 
-link-rest-requires : tie.Need-link-rest-requires
+link-rest-requires : tie.Need-link_rest-requires
 link-rest-requires c κs =
-    let p = c.before.before.before.before.before.before.before.before.before.before.before.before.before.before.before.before.before.before.before.requires in
-    let k = c.before.before.before.before.before.before.before.before.before.before.before.before.before.before.before.before.classes in
-    let q = c.before.before.before.before.before.before.before.before.before.before.before.before.before.row_count.ensures in
-    let room = fits q.1.0 k.auto.0 p.room in
-    let some = q.1.1 (nonempty p.linking p.count) (wide k.ensures.few p.few k.auto.0 p.room) in
-    let m = making-first p.linking p.count p.few p.bytes k.ensures room some c.before.before.before.before.before.before.before.before.before.before.before.base-row.ensures q.0 (c.before.before.before.before.before.before.before.overlay.ensures p.names (root-rowable p.linking p.count p.few p.bytes k.ensures room some c.before.before.before.before.before.before.before.before.before.before.before.base-row.ensures)) in
-    (p.phrases, (p.names, (c.before.before.before.link-rows.ensures p.phrases p.names m, p.count)))
+    let p = c.requires in
+    let k = c.classes-w in
+    let q = c.row_count-count.ensures in
+    let room = fits q.1.0 k.auto.t p.room in
+    let some = q.1.1 (nonempty p.linking p.count) (wide k.ensures.few p.few k.auto.t p.room) in
+    let m = making-first p.linking p.count p.few p.bytes k.ensures room some c.base_row.ensures q.0 (c.overlay.ensures p.names (root-rowable p.linking p.count p.few p.bytes k.ensures room some c.base_row.ensures)) in
+    (p.phrases, (p.names, (c.link_rows.ensures p.phrases p.names m, p.count)))
 
-same_length : tie.Need-same-length
+same_length : tie.Need-shape_of-t
 same_length c = search rules
 
 returns : tie.Need-returns
 returns c = λ ps names l n.
-    let p = c.before.before.before.before.before.before.before.before.before.before.before.before.before.before.before.before.before.before.before.before.before.before.requires in
-    let k = c.before.before.before.before.before.before.before.before.before.before.before.before.before.before.before.before.before.before.before.classes in
-    let q = c.before.before.before.before.before.before.before.before.before.before.before.before.before.before.before.before.row_count.ensures in
-    let room = fits q.1.0 k.auto.0 p.room in
-    let some = q.1.1 (nonempty p.linking p.count) (wide k.ensures.few p.few k.auto.0 p.room) in
-    let m = making-first l n p.few p.bytes k.ensures room some c.before.before.before.before.before.before.before.before.before.before.before.before.before.before.base-row.ensures q.0 (c.before.before.before.before.before.before.before.before.before.before.overlay.ensures names (root-rowable l n p.few p.bytes k.ensures room some c.before.before.before.before.before.before.before.before.before.before.before.before.before.before.base-row.ensures)) in
-    let z = c.before.before.link-rest.ensures ps names (c.before.before.before.before.before.before.link-rows.ensures ps names m) n in
+    let p = c.requires in
+    let k = c.classes-w in
+    let q = c.row_count-count.ensures in
+    let room = fits q.1.0 k.auto.t p.room in
+    let some = q.1.1 (nonempty p.linking p.count) (wide k.ensures.few p.few k.auto.t p.room) in
+    let m = making-first l n p.few p.bytes k.ensures room some c.base_row.ensures q.0 (c.overlay.ensures names (root-rowable l n p.few p.bytes k.ensures room some c.base_row.ensures)) in
+    let z = c.link_rest.ensures ps names (c.link_rows.ensures ps names m) n in
     record { linking = rw (← n) at z.linking; rows = z.rows; some = z.some }
 
 pub finish_spec : {M : Type 1} → statement M

@@ -8,68 +8,68 @@ use Rattle.automaton.proofs.Fitting.{Fitting, fitting-none, fitting-next, fittin
 use Rattle.automaton.proofs.fits.Statement.{statement}
 use Rattle.automaton.proofs.fits.Tie as tie
 
-abbrev invariant-loop : tie.invariant-loop
-invariant-loop page book starts lens total₀ i₀ total i = Fitting (fold_on page) book starts lens total i
+abbrev invariant-loop-i : tie.invariant-loop-i
+invariant-loop-i page book starts lens total₀ i₀ total i = Fitting (fold_on page) book starts lens total i
 
-abbrev decreases-loop : tie.decreases-loop
-decreases-loop page book starts lens total₀ i₀ total i = length starts - i
+abbrev decreases-loop-i : tie.decreases-loop-i
+decreases-loop-i page book starts lens total₀ i₀ total i = length starts - i
 
-loop-holds : tie.Need-loop-init invariant-loop decreases-loop
+loop-holds : tie.Need-loop-i-init invariant-loop-i decreases-loop-i
 loop-holds c = let a = c.args in fitting-none (fold_on a.page) a.book.now a.starts.now a.lens.now
 
-mul-len : tie.Need-overflow-mul-len invariant-loop decreases-loop
-mul-len c = omega (arith, c.loop-test.true, c.before.before.requires, c.before.before.well-formed.1.1.1.0.1)
+mul-len : tie.Need-offset_bounds-lens-i invariant-loop-i decreases-loop-i
+mul-len c = omega (arith, c.loop-i-test.true, c.requires, c.well_formed.1.1.1.0.1)
 
-shared-slice-read-len : tie.Need-shared-slice-read-len invariant-loop decreases-loop
-shared-slice-read-len c = omega (arith, c.before.loop-test.true, c.before.before.before.requires)
+shared-slice-read-len : tie.Need-bounds-lens-i invariant-loop-i decreases-loop-i
+shared-slice-read-len c = omega (arith, c.loop-i-test.true, c.requires)
 
-mul-start : tie.Need-overflow-mul-start invariant-loop decreases-loop
-mul-start c = omega (arith, c.before.loop-test.true, c.before.before.before.well-formed.1.1.0.1)
+mul-start : tie.Need-offset_bounds-starts-i invariant-loop-i decreases-loop-i
+mul-start c = omega (arith, c.loop-i-test.true, c.well_formed.1.1.0.1)
 
-shared-slice-read-start : tie.Need-shared-slice-read-start invariant-loop decreases-loop
-shared-slice-read-start c = c.before.before.loop-test.true
+shared-slice-read-start : tie.Need-bounds-starts-i invariant-loop-i decreases-loop-i
+shared-slice-read-start c = c.loop-i-test.true
 
-returns : tie.Need-returns invariant-loop decreases-loop
-returns c = ((λ e. absurd (false≢true e)), λ _ g. omega (arith, c.if1.true, g.group.some c.before.before.before.before.loop.i c.before.before.before.loop-test.true))
+returns : tie.Need-returns-then-len-eq0 invariant-loop-i decreases-loop-i
+returns c = ((λ e. absurd (false≢true e)), λ _ g. omega (arith, c.if-len-eq0.true, g.group.some c.loop-i.i c.loop-i-test.true))
 
-returns-2 : tie.Need-returns-2 invariant-loop decreases-loop
-returns-2 c = ((λ e. absurd (false≢true e)), λ _ g. omega (arith, c.if2.true, g.group.inside c.before.before.before.before.before.loop.i c.before.before.before.before.loop-test.true))
+returns-2 : tie.Need-returns-then-book-len invariant-loop-i decreases-loop-i
+returns-2 c = ((λ e. absurd (false≢true e)), λ _ g. omega (arith, c.if-book-len.true, g.group.inside c.loop-i.i c.loop-i-test.true))
 
-sub-if3 : tie.Need-overflow-sub-if3 invariant-loop decreases-loop
-sub-if3 c = c.if2.false
+sub-if3 : tie.Need-overflow_sub-book invariant-loop-i decreases-loop-i
+sub-if3 c = c.if-book-len.false
 
-returns-3 : tie.Need-returns-3 invariant-loop decreases-loop
-returns-3 c = ((λ e. absurd (false≢true e)), λ _ g. omega (arith, c.if3.true, g.group.inside c.before.before.before.before.before.before.loop.i c.before.before.before.before.before.loop-test.true))
+returns-3 : tie.Need-returns-then-book-len-2 invariant-loop-i decreases-loop-i
+returns-3 c = ((λ e. absurd (false≢true e)), λ _ g. omega (arith, c.if-book-len-2.true, g.group.inside c.loop-i.i c.loop-i-test.true))
 
-sub-if4 : tie.Need-overflow-sub-if4 invariant-loop decreases-loop
-sub-if4 c = c.before.before.before.before.before.before.loop.invariant.small
+sub-if4 : tie.Need-overflow_sub-total invariant-loop-i decreases-loop-i
+sub-if4 c = c.loop-i.invariant.small
 
-returns-4 : tie.Need-returns-4 invariant-loop decreases-loop
-returns-4 c = ((λ e. absurd (false≢true e)), λ _ g. fitting-over c.before.before.before.before.before.before.before.before.requires c.before.before.before.before.before.before.before.loop.invariant c.before.before.before.before.before.before.loop-test.true c.if4.true g)
+returns-4 : tie.Need-returns-then-total-len invariant-loop-i decreases-loop-i
+returns-4 c = ((λ e. absurd (false≢true e)), λ _ g. fitting-over c.requires c.loop-i.invariant c.loop-i-test.true c.if-total-len.true g)
 
-add_total : tie.Need-overflow-add-total invariant-loop decreases-loop
-add_total c = let f = c.before.before.before.before.before.before.before.loop.invariant in omega (arith, f.small, c.if4.false)
+add_total : tie.Need-overflow_add-total invariant-loop-i decreases-loop-i
+add_total c = let f = c.loop-i.invariant in omega (arith, f.small, c.if-total-len.false)
 
-add-i : tie.Need-overflow-add-i invariant-loop decreases-loop
+add-i : tie.Need-overflow_add-i invariant-loop-i decreases-loop-i
 add-i c = omega arith
 
-loop-less : tie.Need-loop-smaller invariant-loop decreases-loop
-loop-less c = omega (arith, c.before.before.before.before.before.before.loop-test.true)
+loop-less : tie.Need-loop-i-smaller invariant-loop-i decreases-loop-i
+loop-less c = omega (arith, c.loop-i-test.true)
 
-loop-again : tie.Need-loop-preserved invariant-loop decreases-loop
+loop-again : tie.Need-loop-i-preserved invariant-loop-i decreases-loop-i
 loop-again c =
-    let f = c.before.before.before.before.before.before.before.loop.invariant in
-    fitting-next c.before.before.before.before.before.before.before.before.requires f c.before.before.before.before.before.before.loop-test.true (omega (arith, c.before.before.before.if1.false)) (omega (arith, c.before.before.if2.false, c.before.if3.false)) (omega (arith, f.small, c.if4.false))
+    let f = c.loop-i.invariant in
+    fitting-next c.requires f c.loop-i-test.true (omega (arith, c.if-len-eq0.false)) (omega (arith, c.if-book-len.false, c.if-book-len-2.false)) (omega (arith, f.small, c.if-total-len.false))
 
-returns-5 : tie.Need-returns-5 invariant-loop decreases-loop
-returns-5 c = ((λ _. fitting-done c.before.before.requires c.before.loop.invariant c.loop-test.false), λ e _. true≢false e)
+returns-5 : tie.Need-returns invariant-loop-i decreases-loop-i
+returns-5 c = ((λ _. fitting-done c.requires c.loop-i.invariant c.loop-i-test.false), λ e _. true≢false e)
 
-pub fits-spec : {M : Type 1} → statement M
-fits-spec =
+pub fits_spec : {M : Type 1} → statement M
+fits_spec =
     tie.close
     (tie.spec
-    invariant-loop
-    decreases-loop
+    invariant-loop-i
+    decreases-loop-i
     loop-holds
     mul-len
     shared-slice-read-len

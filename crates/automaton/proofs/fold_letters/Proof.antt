@@ -9,40 +9,40 @@ use Rattle.tries.proofs.Puts.{put-none, put_next, put_all}
 use Rattle.automaton.proofs.fold_letters.Statement.{statement}
 use Rattle.automaton.proofs.fold_letters.Tie as tie
 
-abbrev invariant-loop : tie.invariant-loop
-invariant-loop page folds₀ c₀ folds c = (c ≤ 256) × Put folds₀ folds 0 c (fold_on page)
+abbrev invariant-loop-c : tie.invariant-loop-c
+invariant-loop-c page folds₀ c₀ folds c = (c ≤ 256) × Put folds₀ folds 0 c (fold_on page)
 
-abbrev decreases-loop : tie.decreases-loop
-decreases-loop page folds₀ c₀ folds c = 256 - c
+abbrev decreases-loop-c : tie.decreases-loop-c
+decreases-loop-c page folds₀ c₀ folds c = 256 - c
 
-loop-holds : tie.Need-loop-init invariant-loop decreases-loop
-loop-holds c = (omega arith, put-none c.before.args.folds.now 0 (fold_on c.before.args.page))
+loop-holds : tie.Need-loop-c-init invariant-loop-c decreases-loop-c
+loop-holds c = (omega arith, put-none c.args.folds.now 0 (fold_on c.args.page))
 
-cast-folded : tie.Need-overflow-cast-folded invariant-loop decreases-loop
-cast-folded c = omega (arith, c.loop-test.true)
+cast-folded : tie.Need-overflow_cast-c invariant-loop-c decreases-loop-c
+cast-folded c = omega (arith, c.loop-c-test.true)
 
-folded-requires : tie.Need-folded-requires invariant-loop decreases-loop
+folded-requires : tie.Need-folded-requires invariant-loop-c decreases-loop-c
 folded-requires c κs = search rules
 
-slice-write-folds : tie.Need-slice-write-folds invariant-loop decreases-loop
-slice-write-folds c = let o = c.before.before in omega (arith, o.loop.invariant.1.long, o.before.before.requires, c.before.loop-test.true)
+slice-write-folds : tie.Need-bounds-folds-c invariant-loop-c decreases-loop-c
+slice-write-folds c = let o = c.before.before in omega (arith, o.loop-c.invariant.1.long, o.requires, c.loop-c-test.true)
 
-add-c : tie.Need-overflow-add-c invariant-loop decreases-loop
-add-c c = omega (arith, c.before.loop-test.true)
+add-c : tie.Need-overflow_add-c invariant-loop-c decreases-loop-c
+add-c c = omega (arith, c.loop-c-test.true)
 
-loop-less : tie.Need-loop-smaller invariant-loop decreases-loop
+loop-less : tie.Need-loop-c-smaller invariant-loop-c decreases-loop-c
 loop-less c = omega arith
 
-loop-again : tie.Need-loop-preserved invariant-loop decreases-loop
+loop-again : tie.Need-loop-c-preserved invariant-loop-c decreases-loop-c
 loop-again c =
     let o = c.before.before in
-    (omega (arith, c.before.loop-test.true), rw (zero-add o.loop.c) at (put_next o.loop.invariant.1 (omega (arith, o.before.before.requires, c.before.loop-test.true)) c.folded.result c.folded.ensures))
+    (omega (arith, c.loop-c-test.true), rw (zero-add o.loop-c.c) at (put_next o.loop-c.invariant.1 (omega (arith, o.requires, c.loop-c-test.true)) c.folded.result c.folded.ensures))
 
-same_length : tie.Need-same-length invariant-loop decreases-loop
-same_length c = c.before.loop.invariant.1.long
+same_length : tie.Need-shape_of-folds invariant-loop-c decreases-loop-c
+same_length c = c.loop-c.invariant.1.long
 
-returns : tie.Need-returns invariant-loop decreases-loop
-returns c = put_all (fold_on c.before.before.before.args.page) c.before.loop.invariant.1 c.loop-test.false c.before.loop.invariant.0
+returns : tie.Need-returns invariant-loop-c decreases-loop-c
+returns c = put_all (fold_on c.args.page) c.loop-c.invariant.1 c.loop-c-test.false c.loop-c.invariant.0
 
-pub fold-letters-spec : {M : Type 1} → statement M
-fold-letters-spec = tie.close (tie.spec invariant-loop decreases-loop loop-holds cast-folded folded-requires slice-write-folds add-c loop-less loop-again same_length returns)
+pub fold_letters_spec : {M : Type 1} → statement M
+fold_letters_spec = tie.close (tie.spec invariant-loop-c decreases-loop-c loop-holds cast-folded folded-requires slice-write-folds add-c loop-less loop-again same_length returns)

@@ -5,17 +5,17 @@ use Rattle.fold.proofs.Fold.{on-15, not-on-15}
 use Rattle.automaton.proofs.folded.Statement.{statement}
 use Rattle.automaton.proofs.folded.Tie as tie
 
-on-page-15-requires : tie.Need-on-page-15-requires
+on-page-15-requires : tie.Need-on_page_15-requires
 on-page-15-requires c κs = search rules
 
-returns : tie.Need-returns
-returns c = c.on-page-15.ensures ∙ ap (λ f. f c.before.before.args.byte) (sym (on-15 c.before.if1.true))
+returns : tie.Need-returns-then-page-eq15
+returns c = c.on_page_15.ensures ∙ ap (λ f. f c.args.byte) (sym (on-15 c.if-page-eq15.true))
 
-on-page-1-requires : tie.Need-on-page-1-requires
+on-page-1-requires : tie.Need-on_page_1-requires
 on-page-1-requires c κs = search rules
 
-returns-2 : tie.Need-returns-2
-returns-2 c = c.on-page-1.ensures ∙ ap (λ f. f c.before.before.args.byte) (sym (not-on-15 c.before.if1.false))
+returns-2 : tie.Need-returns
+returns-2 c = c.on_page_1.ensures ∙ ap (λ f. f c.args.byte) (sym (not-on-15 c.if-page-eq15.false))
 
-pub folded-spec : {M : Type 1} → statement M
-folded-spec = tie.close (tie.spec on-page-15-requires returns on-page-1-requires returns-2)
+pub folded_spec : {M : Type 1} → statement M
+folded_spec = tie.close (tie.spec on-page-15-requires returns on-page-1-requires returns-2)

@@ -55,77 +55,77 @@ unfolding state
 walked-endings {ps} d T b = walk_is d T 0 d.linking.linked.trie.some (λ i _. b i) ∙ ap (λ s. numbers (step ps) s T) d.linking.linked.trie.root ∙ steps-endings ps [] T
 
 -- what is known once no test has refused
-size : (c : tie.Else1) → let a = c.before.before.before.before.before.before.before.before.before.args in Sized a.page (length a.starts.now) (length a.lens.now) (length a.text.now) (length a.scratch.now) (length a.left.now) (length a.place.now)
-size c = c.before.sized.ensures.0 (not-false _ c.if1.false)
+size : (c : tie.Else-not-whole) → let a = c.args in Sized a.page (length a.starts.now) (length a.lens.now) (length a.text.now) (length a.scratch.now) (length a.left.now) (length a.place.now)
+size c = c.sized-whole.ensures.0 (not-false _ c.if-not-whole.false-raw)
 
-good : (c : tie.Else2) → let a = c.before.before.before.before.before.before.before.before.before.before.before.args in Good (fold_on a.page) a.book.now a.starts.now a.lens.now
-good c = c.before.fits2.ensures.0 (not-false _ c.if2.false)
+good : (c : tie.Else-not-fits) → let a = c.args in Good (fold_on a.page) a.book.now a.starts.now a.lens.now
+good c = c.fits.ensures.0 (not-false _ c.if-not-fits.false-raw)
 
 -- the letters of the text are bytes
-text-bytes : (c : tie.Else2) → (i : ℕ) → get_or c.before.before.before.before.before.before.before.before.before.before.before.args.text.now i 0 < 256
-text-bytes c = λ i. omega (arith, c.before.before.before.before.before.before.before.shared-slice-known4.given i)
+text-bytes : (c : tie.Else-not-fits) → (i : ℕ) → get_or c.args.text.now i 0 < 256
+text-bytes c = λ i. omega (arith, c.shared_slice_known-4-1.given i)
 
-book-bytes : (c : tie.Else2) → (i : ℕ) → get_or c.before.before.before.before.before.before.before.before.before.before.before.args.book.now i 0 < 256
-book-bytes c = λ i. omega (arith, c.before.before.before.before.before.before.before.before.before.before.shared-slice-known.given i)
+book-bytes : (c : tie.Else-not-fits) → (i : ℕ) → get_or c.args.book.now i 0 < 256
+book-bytes c = λ i. omega (arith, c.shared_slice_known-1.given i)
 
 -- the table of folded letters: what it holds, and that phrases folded by it are those folded by the page
-abbrev folds : tie.After-fold-letters → List ℕ
-folds c = c.fold-letters.new.1.0
+abbrev folds : tie.After-fold_letters → List ℕ
+folds c = c.fold_letters.new.folds
 
-looked-up : (c : tie.After-fold-letters) → (x : ℕ) → x < 256 → table (folds c) x ≡ fold_on c.before.before.before.before.before.before.before.before.before.before.before.before.before.args.page x
-looked-up c x h = ap (λ i. get_or (folds c) i 0) (sym (zero-add x)) ∙ c.fold-letters.ensures.within x h
+looked-up : (c : tie.After-fold_letters) → (x : ℕ) → x < 256 → table (folds c) x ≡ fold_on c.args.page x
+looked-up c x h = ap (λ i. get_or (folds c) i 0) (sym (zero-add x)) ∙ c.fold_letters.ensures.within x h
 
-folded-alike : (c : tie.After-fold-letters) → let a = c.before.before.before.before.before.before.before.before.before.before.before.before.before.args in phrases_in (table (folds c)) a.book.now a.starts.now a.lens.now ≡ phrases_in (fold_on a.page) a.book.now a.starts.now a.lens.now
-folded-alike c = let a = c.before.before.before.before.before.before.before.before.before.before.before.before.before.args in phrases-same (table (folds c)) (fold_on a.page) (looked-up c) a.book.now a.starts.now a.lens.now (book-bytes c.before.before)
+folded-alike : (c : tie.After-fold_letters) → let a = c.args in phrases_in (table (folds c)) a.book.now a.starts.now a.lens.now ≡ phrases_in (fold_on a.page) a.book.now a.starts.now a.lens.now
+folded-alike c = let a = c.args in phrases-same (table (folds c)) (fold_on a.page) (looked-up c) a.book.now a.starts.now a.lens.now (book-bytes c.before.before)
 
 -- their letters are bytes
-bytes : (c : tie.After-fold-letters) → let a = c.before.before.before.before.before.before.before.before.before.before.before.before.before.args in (k i : ℕ) → get_or (get_or (phrases_in (table (folds c)) a.book.now a.starts.now a.lens.now) k []) i 0 < 256
+bytes : (c : tie.After-fold_letters) → let a = c.args in (k i : ℕ) → get_or (get_or (phrases_in (table (folds c)) a.book.now a.starts.now a.lens.now) k []) i 0 < 256
 bytes c =
-    let a = c.before.before.before.before.before.before.before.before.before.before.before.before.before.args in
+    let a = c.args in
     phrase-byte (table (folds c)) (λ x h. omega (arith, looked-up c x h, page-byte a.page x h)) a.book.now a.starts.now a.lens.now (book-bytes c.before.before)
 
-sized-requires : tie.Need-sized-requires
+sized-requires : tie.Need-sized-whole-requires
 sized-requires c κs = search rules
 
-returns : tie.Need-returns
-returns c = refusal (λ a. c.before.sized.ensures.1 (not-true _ c.if1.true) (sizes a))
+returns : tie.Need-returns-then-not-whole
+returns c = refusal (λ a. c.sized-whole.ensures.1 (not-true _ c.if-not-whole.true-raw) (sizes a))
 
 fits-requires : tie.Need-fits-requires
 fits-requires c κs = (size c).pairs
 
-returns-2 : tie.Need-returns-2
-returns-2 c = refusal (λ a. c.before.fits2.ensures.1 (not-true _ c.if2.true) (goods a))
+returns-2 : tie.Need-returns-then-not-fits
+returns-2 c = refusal (λ a. c.fits.ensures.1 (not-true _ c.if-not-fits.true-raw) (goods a))
 
-slice-aggregate-fold-letters : tie.Need-slice-aggregate-fold-letters
+slice-aggregate-fold-letters : tie.Need-slice_bounds-fold_letters-end
 slice-aggregate-fold-letters c = search rules
 
-fold-letters-requires : tie.Need-fold-letters-requires
+fold-letters-requires : tie.Need-fold_letters-requires
 fold-letters-requires c κs = omega arith
 
-array-borrow-prefix-at : tie.Need-array-borrow-prefix-at
+array-borrow-prefix-at : tie.Need-slice_bounds-at-end
 array-borrow-prefix-at c = (size c.before.before.before.before.before.before).few
 
-slice-aggregate-build : tie.Need-slice-aggregate-build
-slice-aggregate-build c = sym (length-take-le (length c.before.before.before.before.before.before.before.before.before.before.before.before.before.before.before.before.args.starts.now) (replicate 64 0) (size c.before.before.before.before.before.before.before).few)
+slice-aggregate-build : tie.Need-slice_bounds-build-end
+slice-aggregate-build c = sym (length-take-le (length c.args.starts.now) (replicate 64 0) (size c.before.before.before.before.before.before.before).few)
 
-slice-aggregate-build-2 : tie.Need-slice-aggregate-build-2
-slice-aggregate-build-2 c = sym c.before.before.before.before.fold-letters.ensures.long
+slice-aggregate-build-2 : tie.Need-slice_bounds-build-end-2
+slice-aggregate-build-2 c = sym c.fold_letters.ensures.long
 
-build-requires : tie.Need-build-requires
+build-requires : tie.Need-build-n-requires
 build-requires c κs =
     let l = c.before.before.before.before in
     let e = l.before.before in
-    let a = e.before.before.before.before.before.before.before.before.before.before.before.args in
+    let a = e.args in
     let z = size e.before.before in
     let g = good e in
     let n = phrases-count (table (folds l)) a.book.now a.starts.now a.lens.now z.pairs in
-    (omega (arith, l.fold-letters.ensures.long), (z.few, (g.group, (record { some = omega (arith, z.some); small = omega (arith, g.most, ap letters (folded-alike l)); long = omega (arith, g.most, ap letters (folded-alike l), z.room) }, take-zeros (length a.starts.now) 64 z.few))))
+    (omega (arith, l.fold_letters.ensures.long), (z.few, (g.group, (record { some = omega (arith, z.some); small = omega (arith, g.most, ap letters (folded-alike l)); long = omega (arith, g.most, ap letters (folded-alike l), z.room) }, take-zeros (length a.starts.now) 64 z.few))))
 
-finish-requires : tie.Need-finish-requires
+finish-requires : tie.Need-finish-rows-requires
 finish-requires c κs =
     let l = c.before.before.before.before.before.before.before.before.before in
     let e = l.before.before in
-    let m = c.before.before.before.before.build in
+    let m = c.build-n in
     let a = m.ensures in
     record {
       phrases = _;
@@ -134,20 +134,20 @@ finish-requires c κs =
       count = a.count;
       few = omega (arith, a.few, (good e).most, ap letters (folded-alike l));
       bytes = λ x i h. letter-byte a.linking.linked (bytes l) x i (omega (arith, a.count));
-      room = omega (arith, m.auto.0, (size e.before.before).room);
+      room = omega (arith, m.auto.t, (size e.before.before).room);
     }
 
-walk-requires : tie.Need-walk-requires
+walk-requires : tie.Need-walk-reads-requires
 walk-requires c κs =
-    let l = c.before.before.before.before.before.before.before.before.before.before.before.before.before.before.before in
+    let l = c.before.before.before.before.before.before.before.before.before.before.before.before.before.before in
     let e = l.before.before in
     let z = size e.before.before in
     let g = (good e).group in
-    let a = c.before.before.before.before.before.before.before.before.before.before.build.ensures in
+    let a = c.build-n.ensures in
     record {
       phrases = _;
       names = a.names;
-      rowed = c.before.before.before.before.before.finish.ensures _ a.names a.linking a.count;
+      rowed = c.finish-rows.ensures _ a.names a.linking a.count;
       lens-of = lens-of (table (folds l)) g;
       few = omega (arith, z.few, g.pairs);
       lefts = z.lefts ∙ g.pairs;
@@ -155,36 +155,36 @@ walk-requires c κs =
       small = z.small;
     }
 
-set-all-requires : tie.Need-set-all-requires
+set-all-requires : tie.Need-set_all-requires
 set-all-requires c κs = search rules
 
-same_length : tie.Need-same-length
+same_length : tie.Need-shape_of-scratch
 same_length c = search rules
 
-same-length-2 : tie.Need-same-length-2
+same-length-2 : tie.Need-shape_of-left
 same-length-2 c = search rules
 
-same-length-3 : tie.Need-same-length-3
+same-length-3 : tie.Need-shape_of-place
 same-length-3 c = search rules
 
-returns-3 : tie.Need-returns-3
+returns-3 : tie.Need-returns
 returns-3 c =
-    let l = c.before.before.before.before.before.before.before.before.before.before.before.before.before.before.before.before.before.before.before.before.before.before.before.before in
+    let l = c.before.before.before.before.before.before.before.before.before.before.before.before.before.before.before.before.before.before.before.before.before.before.before in
     let e = l.before.before in
-    let text = e.before.before.before.before.before.before.before.before.before.before.before.args.text.now in
-    let a = c.before.before.before.before.before.before.before.before.before.before.before.before.before.before.before.before.before.before.before.build.ensures in
-    let rowed = c.before.before.before.before.before.before.before.before.before.before.before.before.before.before.finish.ensures _ a.names a.linking a.count in
+    let text = e.args.text.now in
+    let a = c.build-n.ensures in
+    let rowed = c.finish-rows.ensures _ a.names a.linking a.count in
     record {
       walked = λ _. record {
         accepted = accepted (size e.before.before) (good e);
-        counted = rw (walked-endings rowed text (text-bytes e) ∙ ap (λ ps. endings ps [] text) (folded-alike l)) at c.before.before.before.before.before.before.before.before.walk.ensures;
-        emptied = c.before.before.set_all.ensures ∙ ap (λ n. replicate n 0) (c.before.before.before.before.before.before.before.before.before.before.before.before.before.before.finish.auto.0 ∙ c.before.before.before.before.before.before.before.before.before.before.before.before.before.before.before.before.before.before.before.build.auto.0);
+        counted = rw (walked-endings rowed text (text-bytes e) ∙ ap (λ ps. endings ps [] text) (folded-alike l)) at c.walk-reads.ensures;
+        emptied = c.set_all.ensures ∙ ap (λ n. replicate n 0) (c.finish-rows.auto.t ∙ c.build-n.auto.t);
       };
       refused = λ f. absurd (true≢false f);
     }
 
-pub locate-spec : {M : Type 1} → statement M
-locate-spec =
+pub locate_spec : {M : Type 1} → statement M
+locate_spec =
     tie.close
     (tie.spec
     sized-requires

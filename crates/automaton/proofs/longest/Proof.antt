@@ -10,54 +10,54 @@ use Rattle.matching.proofs.CaseAnalysis.{by-test}
 use Rattle.automaton.proofs.longest.Statement.{statement}
 use Rattle.automaton.proofs.longest.Tie as tie
 
-abbrev invariant-loop : tie.invariant-loop
-invariant-loop lens most₀ i₀ most i = (i ≤ length lens) × ((k : ℕ) → k < i → get_or lens k 0 ≤ most)
+abbrev invariant-loop-i : tie.invariant-loop-i
+invariant-loop-i lens most₀ i₀ most i = (i ≤ length lens) × ((k : ℕ) → k < i → get_or lens k 0 ≤ most)
 
-abbrev decreases-loop : tie.decreases-loop
-decreases-loop lens most₀ i₀ most i = length lens - i
+abbrev decreases-loop-i : tie.decreases-loop-i
+decreases-loop-i lens most₀ i₀ most i = length lens - i
 
 more : (lens : List ℕ) {i most most' : ℕ} → ((k : ℕ) → k < i → get_or lens k 0 ≤ most) → (most ≤ most') × (get_or lens i 0 ≤ most') → (k : ℕ) → k < i + 1 → get_or lens k 0 ≤ most'
 more lens {i} {most} {most'} all h k l =
     by-test (λ _. get_or lens k 0 ≤ most') (eqb k i) (λ e. rw (eqb-true k i e) h.1) (λ e. omega (arith, all k (omega (arith, eqb-false k i e)), h.0))
 
-loop-holds : tie.Need-loop-init invariant-loop decreases-loop
+loop-holds : tie.Need-loop-i-init invariant-loop-i decreases-loop-i
 loop-holds c = (omega arith, λ k h. absurd (omega arith))
 
-mul-if1 : tie.Need-overflow-mul-if1 invariant-loop decreases-loop
-mul-if1 c = omega (arith, c.before.before.well-formed.0.1)
+mul-if1 : tie.Need-offset_bounds-lens-i invariant-loop-i decreases-loop-i
+mul-if1 c = omega (arith, c.well_formed.0.1)
 
-shared-slice-read-if1 : tie.Need-shared-slice-read-if1 invariant-loop decreases-loop
+shared-slice-read-if1 : tie.Need-bounds-lens-i invariant-loop-i decreases-loop-i
 shared-slice-read-if1 c = omega arith
 
-mul_most : tie.Need-overflow-mul-most invariant-loop decreases-loop
-mul_most c = omega (arith, c.before.before.before.before.well-formed.0.1)
+mul_most : tie.Need-offset_bounds-lens-i-then-most-lens invariant-loop-i decreases-loop-i
+mul_most c = omega (arith, c.well_formed.0.1)
 
-shared-slice-read-most : tie.Need-shared-slice-read-most invariant-loop decreases-loop
+shared-slice-read-most : tie.Need-bounds-lens-i-then-most-lens invariant-loop-i decreases-loop-i
 shared-slice-read-most c = omega arith
 
-add-i : tie.Need-overflow-add-i invariant-loop decreases-loop
+add-i : tie.Need-overflow_add-i invariant-loop-i decreases-loop-i
 add-i c = omega arith
 
-loop-less : tie.Need-loop-smaller invariant-loop decreases-loop
+loop-less : tie.Need-loop-i-smaller invariant-loop-i decreases-loop-i
 loop-less c = omega arith
 
-loop-again : tie.Need-loop-preserved invariant-loop decreases-loop
+loop-again : tie.Need-loop-i-preserved invariant-loop-i decreases-loop-i
 loop-again c =
     let o = c.before.before.before in (
-      omega (arith, c.before.before.loop-test.true),
-      more o.before.args.lens.now o.loop.invariant.1
-          (⊎_elim (λ x. (omega (arith, x.0.taken, x.2), omega (arith, x.2))) (λ x. (omega (arith, x.1), omega (arith, x.0.left, x.1))) c.if1.branch),
+      omega (arith, c.loop-i-test.true),
+      more o.args.lens.now o.loop-i.invariant.1
+          (⊎_elim (λ x. (omega (arith, x.if-most-lens.true, x.most-is), omega (arith, x.most-is))) (λ x. (omega (arith, x.most-is), omega (arith, x.if-most-lens.false, x.most-is))) c.if-most-lens.branch-raw),
     )
 
-returns : tie.Need-returns invariant-loop decreases-loop
-returns c = λ k h. c.before.loop.invariant.1 k (omega arith)
+returns : tie.Need-returns invariant-loop-i decreases-loop-i
+returns c = λ k h. c.loop-i.invariant.1 k (omega arith)
 
-pub longest-spec : {M : Type 1} → statement M
-longest-spec =
+pub longest_spec : {M : Type 1} → statement M
+longest_spec =
     tie.close
     (tie.spec
-    invariant-loop
-    decreases-loop
+    invariant-loop-i
+    decreases-loop-i
     loop-holds
     mul-if1
     shared-slice-read-if1

@@ -7,42 +7,42 @@ use Rattle.tries.proofs.Marks.{shl_one, mark-fits}
 use Rattle.automaton.proofs.mark.Statement.{statement}
 use Rattle.automaton.proofs.mark.Tie as tie
 
-mul_at : tie.Need-overflow-mul-at
+mul_at : tie.Need-overflow_mul-at
 mul_at c = search rules
 
-add_at : tie.Need-overflow-add-at
+add_at : tie.Need-overflow_add-at
 add_at c = search rules
 
-add-at-2 : tie.Need-overflow-add-at-2
+add-at-2 : tie.Need-overflow_add-at-2
 add-at-2 c = search rules
 
-cast-bit : tie.Need-overflow-cast-bit
+cast-bit : tie.Need-overflow_cast-bit
 cast-bit c = search rules
 
-shl-bit : tie.Need-overflow-shl-bit
+shl-bit : tie.Need-overflow_shl-bit
 shl-bit c = search rules
 
-mul-t : tie.Need-overflow-mul-t
+mul-t : tie.Need-offset_bounds-t-at
 mul-t c = search rules
 
-slice-read-t : tie.Need-slice-read-t
+slice-read-t : tie.Need-bounds-t-at
 slice-read-t c = search rules
 
-add-t : tie.Need-overflow-add-t
-add-t c = let a = c.before.args in let p = c.before.requires in omega (arith, shl_one (a.i % 16) (omega arith), mark-fits a.t.now a.s a.i p.1.0 p.1.1)
+add-t : tie.Need-overflow_add-t
+add-t c = let a = c.args in let p = c.requires in omega (arith, shl_one (a.i % 16) (omega arith), mark-fits a.t.now a.s a.i p.1.0 p.1.1)
 
-mul-t-2 : tie.Need-overflow-mul-t-2
+mul-t-2 : tie.Need-offset_bounds-t-at-2
 mul-t-2 c = search rules
 
-slice-write-t : tie.Need-slice-write-t
+slice-write-t : tie.Need-bounds-t-at-2
 slice-write-t c = search rules
 
-same_length : tie.Need-same-length
+same_length : tie.Need-shape_of-t
 same_length c = search rules
 
 returns : tie.Need-returns
 unfolding marked
-returns c = rw (shl_one (c.before.args.i % 16) (omega arith))
+returns c = rw (shl_one (c.args.i % 16) (omega arith))
 
 pub mark_spec : {M : Type 1} → statement M
 mark_spec =

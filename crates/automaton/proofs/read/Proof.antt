@@ -9,17 +9,17 @@ use Rattle.automaton.proofs.read.Tie as tie
 use Rattle.automaton.proofs.bits_of.Reads as bits-of-reads
 use Rattle.automaton.proofs.row_step.Reads as row-step-reads
 
-row-step-requires : tie.Need-row-step-requires
-row-step-requires c κs = let p = c.before.requires in record { phrases = p.phrases; names = p.names; done = length p.names; linked = p.rowed.linking.linked; rows = p.rowed.rows; some = p.rowed.some; inside = p.inside; byte = omega (arith, c.before.ranges.c) }
+row-step-requires : tie.Need-row_step-state-requires
+row-step-requires c κs = let p = c.requires in record { phrases = p.phrases; names = p.names; done = length p.names; linked = p.rowed.linking.linked; rows = p.rowed.rows; some = p.rowed.some; inside = p.inside; byte = omega (arith, c.ranges.c) }
 
-bits-of-requires : tie.Need-bits-of-requires
+bits-of-requires : tie.Need-bits_of-requires
 bits-of-requires c κs =
     let o = c.before.before in
     let p = o.requires in
-    omega (arith, c.Row-step.ensures, (step_is p.rowed o.args.s o.args.c p.inside (omega (arith, o.ranges.c))).inside, p.rowed.linking.linked.trie.room)
+    omega (arith, c.row_step-state.ensures, (step_is p.rowed o.args.s o.args.c p.inside (omega (arith, o.ranges.c))).inside, p.rowed.linking.linked.trie.room)
 
 returns : tie.Need-returns
-returns c = let s = c.before.Row-step.ensures in (s, c.bits_of.ensures ∙ ap (bits_at c.before.before.before.args.t.now) s)
+returns c = let s = c.row_step-state.ensures in (s, c.bits_of.ensures ∙ ap (bits_at c.args.t.now) s)
 
 pub read_spec : {M : Type 1} → statement M
 read_spec = tie.close (tie.spec row-step-requires bits-of-requires returns)

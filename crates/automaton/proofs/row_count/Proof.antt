@@ -7,14 +7,14 @@ use Rattle.tries.proofs.Finishing.{room_most, room-one}
 use Rattle.automaton.proofs.row_count.Statement.{statement}
 use Rattle.automaton.proofs.row_count.Tie as tie
 
-div_most : tie.Need-nonzero-div-most
+div_most : tie.Need-nonzero_div-most
 div_most c = search rules
 
-returns : tie.Need-returns
-returns c = let a = c.before.args in let h : a.n ≤ a.room / a.w = omega (arith, c.if1.true) in (omega arith, (omega (arith, room_most a.room a.w, mul-le-mul_left a.w h), λ e _. e))
+returns : tie.Need-returns-then-n-most
+returns c = let a = c.args in let h : a.n ≤ a.room / a.w = omega (arith, c.if-n-most.true) in (omega arith, (omega (arith, room_most a.room a.w, mul-le-mul_left a.w h), λ e _. e))
 
-returns-2 : tie.Need-returns-2
-returns-2 c = let a = c.before.args in (c.if1.false, (room_most a.room a.w, λ _ h. room-one a.room a.w c.before.requires h))
+returns-2 : tie.Need-returns
+returns-2 c = let a = c.args in (c.if-n-most.false, (room_most a.room a.w, λ _ h. room-one a.room a.w c.requires h))
 
-pub row-count-spec : {M : Type 1} → statement M
-row-count-spec = tie.close (tie.spec div_most returns returns-2)
+pub row_count_spec : {M : Type 1} → statement M
+row_count_spec = tie.close (tie.spec div_most returns returns-2)

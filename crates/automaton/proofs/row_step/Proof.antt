@@ -12,99 +12,99 @@ use Rattle.tries.proofs.Steps.{by_row, state-by-child, state-by-fail}
 use Rattle.automaton.proofs.row_step.Statement.{statement}
 use Rattle.automaton.proofs.row_step.Tie as tie
 
-abbrev invariant-loop : tie.invariant-loop
-invariant-loop t w count s c at₀ at = ((ps names : List (List ℕ)) (done : ℕ) → Linked ps names done t → s < done → at < done) × (state_after t w count s c ≡ state_after t w count at c)
+abbrev invariant-loop-at : tie.invariant-loop-at
+invariant-loop-at t w count s c at₀ at = ((ps names : List (List ℕ)) (done : ℕ) → Linked ps names done t → s < done → at < done) × (state_after t w count s c ≡ state_after t w count at c)
 
-abbrev decreases-loop : tie.decreases-loop
-decreases-loop t w count s c at₀ at = at
+abbrev decreases-loop-at : tie.decreases-loop-at
+decreases-loop-at t w count s c at₀ at = at
 
-now : (c : tie.At-loop invariant-loop decreases-loop) → c.loop.at < c.before.before.requires.done
-now c = let p = c.before.before.requires in c.loop.invariant.0 p.phrases p.names p.done p.linked p.inside
+now : (c : tie.At-loop-at invariant-loop-at decreases-loop-at) → c.loop-at.at < c.requires.done
+now c = let p = c.requires in c.loop-at.invariant.0 p.phrases p.names p.done p.linked p.inside
 
-fits : (c : tie.At-loop invariant-loop decreases-loop) → 8 * c.loop.at + 8 ≤ length c.before.before.args.t.now
-fits c = let l = c.before.before.requires.linked in omega (arith, now c, l.most, l.trie.room)
+fits : (c : tie.At-loop-at invariant-loop-at decreases-loop-at) → 8 * c.loop-at.at + 8 ≤ length c.args.t.now
+fits c = let l = c.requires.linked in omega (arith, now c, l.most, l.trie.room)
 
 -- where the loop is left: the row's entry
-entry : (c : tie.After-loop invariant-loop decreases-loop) → let a = c.before.before.before.args in a.w * c.before.loop.at + class_at a.t.now a.c < a.w * a.count
-entry c = let s = c.before.before.before in row_inside s.args.w s.args.count c.before.loop.at (class_at s.args.t.now s.args.c) c.loop-test.false (s.requires.rows.classes.below s.args.c s.requires.byte)
+entry : (c : tie.After-loop-at invariant-loop-at decreases-loop-at) → let a = c.args in a.w * c.loop-at.at + class_at a.t.now a.c < a.w * a.count
+entry c = let s = c.before.before.before in row_inside s.args.w s.args.count c.loop-at.at (class_at s.args.t.now s.args.c) c.loop-at-test.false (s.requires.rows.classes.below s.args.c s.requires.byte)
 
-loop-holds : tie.Need-loop-init invariant-loop decreases-loop
+loop-holds : tie.Need-loop-at-init invariant-loop-at decreases-loop-at
 loop-holds c = ((λ ps names done l h. h), refl)
 
-child-requires : tie.Need-child-requires invariant-loop decreases-loop
-child-requires c κs = let o = c.before in let p = o.before.before.requires in record { names = p.names; trie = p.linked.trie; inside = omega (arith, now o, p.linked.most) }
+child-requires : tie.Need-child-x-requires invariant-loop-at decreases-loop-at
+child-requires c κs = let o = c.before in let p = o.requires in record { names = p.names; trie = p.linked.trie; inside = omega (arith, now o, p.linked.most) }
 
-returns : tie.Need-returns invariant-loop decreases-loop
+returns : tie.Need-returns-then-x-gt0 invariant-loop-at decreases-loop-at
 returns c =
     let o = c.before.before.before in
-    let p = o.before.before.requires in
-    let x = c.before.child.ensures in
-    x ∙ sym (o.loop.invariant.1 ∙ state-by-child _ p.linked p.some _ _ c.before.before.loop-test.true (rw x at c.if1.true))
+    let p = o.requires in
+    let x = c.child-x.ensures in
+    x ∙ sym (o.loop-at.invariant.1 ∙ state-by-child _ p.linked p.some _ _ c.loop-at-test.true (rw x at c.if-x-gt0.true))
 
-mul_at : tie.Need-overflow-mul-at invariant-loop decreases-loop
-mul_at c = omega (arith, fits c.before.before.before, c.before.before.before.before.before.well-formed.0.1)
+mul_at : tie.Need-overflow_mul-at invariant-loop-at decreases-loop-at
+mul_at c = omega (arith, fits c.before.before.before, c.well_formed.0.1)
 
-add_at : tie.Need-overflow-add-at invariant-loop decreases-loop
-add_at c = omega (arith, fits c.before.before.before, c.before.before.before.before.before.well-formed.0.1)
+add_at : tie.Need-overflow_add-at invariant-loop-at decreases-loop-at
+add_at c = omega (arith, fits c.before.before.before, c.well_formed.0.1)
 
-mul-at-2 : tie.Need-overflow-mul-at-2 invariant-loop decreases-loop
-mul-at-2 c = omega (arith, fits c.before.before.before, c.before.before.before.before.before.well-formed.0.1)
+mul-at-2 : tie.Need-offset_bounds-t-at invariant-loop-at decreases-loop-at
+mul-at-2 c = omega (arith, fits c.before.before.before, c.well_formed.0.1)
 
-shared-slice-read-at : tie.Need-shared-slice-read-at invariant-loop decreases-loop
+shared-slice-read-at : tie.Need-bounds-t-at invariant-loop-at decreases-loop-at
 shared-slice-read-at c = omega (arith, fits c.before.before.before.before)
 
-cast-at : tie.Need-overflow-cast-at invariant-loop decreases-loop
-cast-at c = omega (arith, c.shared-slice-known2.given (8 * c.before.before.before.before.loop.at + 3))
+cast-at : tie.Need-overflow_cast-at invariant-loop-at decreases-loop-at
+cast-at c = omega (arith, c.shared_slice_known-in-loop-at-1.given (8 * c.loop-at.at + 3))
 
-loop-less : tie.Need-loop-smaller invariant-loop decreases-loop
-loop-less c = let o = c.before.before.before.before in let p = o.before.before.requires in p.linked.falls _ (omega (arith, c.before.before.before.loop-test.true, p.some)) (now o)
+loop-less : tie.Need-loop-at-smaller invariant-loop-at decreases-loop-at
+loop-less c = let o = c.before.before.before.before in let p = o.requires in p.linked.falls _ (omega (arith, c.loop-at-test.true, p.some)) (now o)
 
-loop-again : tie.Need-loop-preserved invariant-loop decreases-loop
+loop-again : tie.Need-loop-at-preserved invariant-loop-at decreases-loop-at
 loop-again c =
     let o = c.before.before.before.before in
-    let p = o.before.before.requires in
-    let above = c.before.before.before.loop-test.true in
-    ((λ ps names done l h. let a = o.loop.invariant.0 ps names done l h in omega (arith, l.falls _ (omega (arith, above, p.some)) a)), o.loop.invariant.1 ∙ state-by-fail _ p.linked p.some _ _ (now o) above (rw c.before.before.child.ensures at c.before.if1.false))
+    let p = o.requires in
+    let above = c.loop-at-test.true in
+    ((λ ps names done l h. let a = o.loop-at.invariant.0 ps names done l h in omega (arith, l.falls _ (omega (arith, above, p.some)) a)), o.loop-at.invariant.1 ∙ state-by-fail _ p.linked p.some _ _ (now o) above (rw c.child-x.ensures at c.if-x-gt0.false))
 
-add-k : tie.Need-overflow-add-k invariant-loop decreases-loop
-add-k c = omega (arith, c.before.before.before.requires.byte)
+add-k : tie.Need-overflow_add-k invariant-loop-at decreases-loop-at
+add-k c = omega (arith, c.requires.byte)
 
-mul-k : tie.Need-overflow-mul-k invariant-loop decreases-loop
-mul-k c = omega (arith, c.before.before.before.requires.byte)
+mul-k : tie.Need-offset_bounds-t-c invariant-loop-at decreases-loop-at
+mul-k c = omega (arith, c.requires.byte)
 
-shared-slice-read-k : tie.Need-shared-slice-read-k invariant-loop decreases-loop
-shared-slice-read-k c = omega (arith, c.before.before.before.before.requires.byte, c.before.before.before.before.requires.rows.room)
+shared-slice-read-k : tie.Need-bounds-t-c invariant-loop-at decreases-loop-at
+shared-slice-read-k c = omega (arith, c.requires.byte, c.requires.rows.room)
 
-cast-k : tie.Need-overflow-cast-k invariant-loop decreases-loop
-cast-k c = omega (arith, c.shared-slice-known3.given (32776 + c.before.before.before.before.args.c))
+cast-k : tie.Need-overflow_cast-k-2 invariant-loop-at decreases-loop-at
+cast-k c = omega (arith, c.shared_slice_known-2-1.given (32776 + c.args.c))
 
-mul-result : tie.Need-overflow-mul-result invariant-loop decreases-loop
-mul-result c = let s = c.before.before.before.before in omega (arith, entry c.before, s.requires.rows.room, s.well-formed.0.1)
+mul-result : tie.Need-overflow_mul-result invariant-loop-at decreases-loop-at
+mul-result c = let s = c.before.before.before.before in omega (arith, entry c.before, s.requires.rows.room, s.well_formed.0.1)
 
-add-result : tie.Need-overflow-add-result invariant-loop decreases-loop
-add-result c = let s = c.before.before.before.before in omega (arith, entry c.before, s.requires.rows.room, s.well-formed.0.1)
+add-result : tie.Need-overflow_add-result invariant-loop-at decreases-loop-at
+add-result c = let s = c.before.before.before.before in omega (arith, entry c.before, s.requires.rows.room, s.well_formed.0.1)
 
-add-result-2 : tie.Need-overflow-add-result-2 invariant-loop decreases-loop
-add-result-2 c = let s = c.before.before.before.before in omega (arith, entry c.before, s.requires.rows.room, s.well-formed.0.1)
+add-result-2 : tie.Need-overflow_add-result-2 invariant-loop-at decreases-loop-at
+add-result-2 c = let s = c.before.before.before.before in omega (arith, entry c.before, s.requires.rows.room, s.well_formed.0.1)
 
-mul-result-2 : tie.Need-overflow-mul-result-2 invariant-loop decreases-loop
-mul-result-2 c = let s = c.before.before.before.before in omega (arith, entry c.before, s.requires.rows.room, s.well-formed.0.1)
+mul-result-2 : tie.Need-offset_bounds-t-w invariant-loop-at decreases-loop-at
+mul-result-2 c = let s = c.before.before.before.before in omega (arith, entry c.before, s.requires.rows.room, s.well_formed.0.1)
 
-shared-slice-read-result : tie.Need-shared-slice-read-result invariant-loop decreases-loop
+shared-slice-read-result : tie.Need-bounds-t-w invariant-loop-at decreases-loop-at
 shared-slice-read-result c = let s = c.before.before.before.before.before in omega (arith, entry c.before.before, s.requires.rows.room)
 
-cast-result : tie.Need-overflow-cast-result invariant-loop decreases-loop
-cast-result c = let s = c.before.before.before.before.before in let a = s.args in omega (arith, c.shared-slice-known4.given (33032 + (a.w * c.before.before.before.loop.at + class_at a.t.now a.c)))
+cast-result : tie.Need-overflow_cast-result invariant-loop-at decreases-loop-at
+cast-result c = let s = c.before.before.before.before.before in let a = s.args in omega (arith, c.shared_slice_known-3-1.given (33032 + (a.w * c.loop-at.at + class_at a.t.now a.c)))
 
-returns-2 : tie.Need-returns-2 invariant-loop decreases-loop
-returns-2 c = let a = c.before.before.before.before.before.args in sym (c.before.before.before.loop.invariant.1 ∙ by_row a.t.now a.w a.count a.c c.before.before.before.loop.at c.before.before.before.loop.at c.before.before.loop-test.false)
+returns-2 : tie.Need-returns invariant-loop-at decreases-loop-at
+returns-2 c = let a = c.args in sym (c.loop-at.invariant.1 ∙ by_row a.t.now a.w a.count a.c c.loop-at.at c.loop-at.at c.loop-at-test.false)
 
-pub row-step-spec : {M : Type 1} → statement M
-row-step-spec =
+pub row_step_spec : {M : Type 1} → statement M
+row_step_spec =
     tie.close
     (tie.spec
-    invariant-loop
-    decreases-loop
+    invariant-loop-at
+    decreases-loop-at
     loop-holds
     child-requires
     returns

@@ -10,69 +10,69 @@ use Rattle.automaton.proofs.Walks.{Taking, taking-all, taking-next, taking-done}
 use Rattle.automaton.proofs.take_bits.Statement.{statement}
 use Rattle.automaton.proofs.take_bits.Tie as tie
 
-abbrev invariant-loop : tie.invariant-loop
-invariant-loop left₀ place₀ lens bits end b₀ left place b = Taking bits end lens left₀ place₀ left place b
+abbrev invariant-loop-b : tie.invariant-loop-b
+invariant-loop-b left₀ place₀ lens bits end b₀ left place b = Taking bits end lens left₀ place₀ left place b
 
-abbrev decreases-loop : tie.decreases-loop
-decreases-loop left₀ place₀ lens bits end b₀ left place b = b
+abbrev decreases-loop-b : tie.decreases-loop-b
+decreases-loop-b left₀ place₀ lens bits end b₀ left place b = b
 
 -- in a turn: the lowest bit, which is that of a phrase, and that phrase is no longer than what was read
-low : (c : tie.In-loop invariant-loop decreases-loop) → Lowest c.before.loop.b (count_trailing_zeros 64 c.before.loop.b)
-low c = let few : length c.before.before.before.before.before.args.lens.now ≤ 64 = c.before.before.before.before.before.requires.few in lowest 64 c.before.loop.b c.loop-test.true (omega (arith, c.before.loop.invariant.below, pow_mono few))
+low : (c : tie.In-loop-b invariant-loop-b decreases-loop-b) → Lowest c.loop-b.b (count_trailing_zeros 64 c.loop-b.b)
+low c = let few : length c.args.lens.now ≤ 64 = c.requires.few in lowest 64 c.loop-b.b c.loop-b-test.true (omega (arith, c.loop-b.invariant.below, pow_mono few))
 
-within : (c : tie.In-loop invariant-loop decreases-loop) → count_trailing_zeros 64 c.before.loop.b < length c.before.before.before.before.before.args.lens.now
-within c = lowest-below (length c.before.before.before.before.before.args.lens.now) (low c) c.before.loop.invariant.below
+within : (c : tie.In-loop-b invariant-loop-b decreases-loop-b) → count_trailing_zeros 64 c.loop-b.b < length c.args.lens.now
+within c = lowest-below (length c.args.lens.now) (low c) c.loop-b.invariant.below
 
-short : (c : tie.In-loop invariant-loop decreases-loop) → get_or c.before.before.before.before.before.args.lens.now (count_trailing_zeros 64 c.before.loop.b) 0 ≤ c.before.before.before.before.before.args.end
-short c = c.before.before.before.before.before.requires.inside (count_trailing_zeros 64 c.before.loop.b) (within c) (c.before.loop.invariant.due (count_trailing_zeros 64 c.before.loop.b) (low c).set)
+short : (c : tie.In-loop-b invariant-loop-b decreases-loop-b) → get_or c.args.lens.now (count_trailing_zeros 64 c.loop-b.b) 0 ≤ c.args.end
+short c = c.requires.inside (count_trailing_zeros 64 c.loop-b.b) (within c) (c.loop-b.invariant.due (count_trailing_zeros 64 c.loop-b.b) (low c).set)
 
-loop-holds : tie.Need-loop-init invariant-loop decreases-loop
-loop-holds c = taking-all c.before.before.before.requires
+loop-holds : tie.Need-loop-b-init invariant-loop-b decreases-loop-b
+loop-holds c = taking-all c.requires
 
-cast-k : tie.Need-overflow-cast-k invariant-loop decreases-loop
-cast-k c = omega (arith, within c, c.before.before.before.before.before.requires.few)
+cast-k : tie.Need-overflow_cast-k invariant-loop-b decreases-loop-b
+cast-k c = omega (arith, within c, c.requires.few)
 
-mul-count-down : tie.Need-overflow-mul-count-down invariant-loop decreases-loop
-mul-count-down c = omega (arith, within c.before.before, c.before.before.before.before.before.before.before.requires.few)
+mul-count-down : tie.Need-offset_bounds-lens-k invariant-loop-b decreases-loop-b
+mul-count-down c = omega (arith, within c.before.before, c.requires.few)
 
-shared-slice-read-count-down : tie.Need-shared-slice-read-count-down invariant-loop decreases-loop
+shared-slice-read-count-down : tie.Need-bounds-lens-k invariant-loop-b decreases-loop-b
 shared-slice-read-count-down c = within c.before.before.before
 
-sub-count-down : tie.Need-overflow-sub-count-down invariant-loop decreases-loop
+sub-count-down : tie.Need-overflow_sub-end invariant-loop-b decreases-loop-b
 sub-count-down c = short c.before.before.before
 
-count-down-requires : tie.Need-count-down-requires invariant-loop decreases-loop
+count-down-requires : tie.Need-count_down-requires invariant-loop-b decreases-loop-b
 count-down-requires c κs =
     let w = c.before.before.before in
-    let m = w.before.loop.invariant in
-    let p = c.before.before.before.before.before.before.before.before.requires in
+    let m = w.loop-b.invariant in
+    let p = c.requires in
     let k< = within w in
     (omega (arith, m.lefts), (omega (arith, m.places), omega (arith, p.small)))
 
-sub-b : tie.Need-overflow-sub-b invariant-loop decreases-loop
-sub-b c = c.before.before.before.before.before.before.before.before.loop-test.true
+sub-b : tie.Need-overflow_sub-b invariant-loop-b decreases-loop-b
+sub-b c = c.loop-b-test.true
 
-loop-less : tie.Need-loop-smaller invariant-loop decreases-loop
-loop-less c = let l = low c.before.before.before.before.before.before.before.before in omega (arith, l.cleared, l.within, pow_pos (count_trailing_zeros 64 c.before.before.before.before.before.before.before.before.before.loop.b))
+loop-less : tie.Need-loop-b-smaller invariant-loop-b decreases-loop-b
+loop-less c = let l = low c.before.before.before.before.before.before.before.before in omega (arith, l.cleared, l.within, pow_pos (count_trailing_zeros 64 c.loop-b.b))
 
-loop-again : tie.Need-loop-preserved invariant-loop decreases-loop
-loop-again c = let w = c.before.before.before.before.before.before.before.before in taking-next w.before.loop.invariant (low w) w.before.before.before.before.before.requires.few c.before.before.before.before.count_down.ensures
+loop-again : tie.Need-loop-b-preserved invariant-loop-b decreases-loop-b
+loop-again c = let w = c.before.before.before.before.before.before.before.before in taking-next w.loop-b.invariant (low w) w.requires.few c.count_down.ensures
 
-same_length : tie.Need-same-length invariant-loop decreases-loop
-same_length c = let p = c.before.before.before.before.before.requires in c.before.loop.invariant.lefts ∙ sym p.lefts
+same_length : tie.Need-shape_of-left invariant-loop-b decreases-loop-b
+same_length c = let p = c.requires in c.loop-b.invariant.lefts ∙ sym p.lefts
 
-same-length-2 : tie.Need-same-length-2 invariant-loop decreases-loop
-same-length-2 c = let p = c.before.before.before.before.before.requires in c.before.loop.invariant.places ∙ sym p.places
+same-length-2 : tie.Need-shape_of-place invariant-loop-b decreases-loop-b
+same-length-2 c = let p = c.requires in c.loop-b.invariant.places ∙ sym p.places
 
-returns : tie.Need-returns invariant-loop decreases-loop
-returns c = taking-done c.before.loop.invariant c.loop-test.false
+returns : tie.Need-returns invariant-loop-b decreases-loop-b
+returns c = taking-done c.loop-b.invariant c.loop-b-test.false
 
-pub take-bits-spec : {M : Type 1} → statement M
-take-bits-spec =
+pub take_bits_spec : {M : Type 1} → statement M
+take_bits_spec =
     tie.close
     (tie.spec
-    invariant-loop
-    decreases-loop
+    invariant-loop-b
+    decreases-loop-b
     loop-holds
     cast-k
     mul-count-down

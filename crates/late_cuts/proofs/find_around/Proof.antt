@@ -15,7 +15,7 @@ use Rattle.late_cuts.proofs.find_around.Statement.{statement}
 use Rattle.late_cuts.proofs.find_around.Tie as tie
 
 -- the call, and the limits that it keeps
-abbrev call : tie.After-slice-known2 → tie.Start
+abbrev call : tie.After-slice_known-2-1 → tie.Start
 call e = e.before.before.before.before.before.before
 
 limits : (s : tie.Start) → Within (length s.args.phrase.now) (length s.args.letters.now) 0 0
@@ -27,17 +27,17 @@ few-letters s size e =
     none-refused (length s.args.phrase.now) size 0 0 (record { some = (limits s).some; short = (limits s).short; small = omega (arith, e, s.requires.1.1.0); room = omega arith })
 
 -- the call from the three finds of long letters
-abbrev long : tie.After-find-joined2 → tie.Else1
+abbrev long : tie.After-find_joined-one → tie.Else-size-side
 long e = e.before.before.before.before.before
 
-abbrev second : tie.After-find-part → tie.After-find-joined2
+abbrev second : tie.After-find_part-two → tie.After-find_joined-one
 second e = e.before.before.before.before.before.before
 
-abbrev third : tie.After-find-joined3 → tie.After-find-part
-third e = e.before.before.before.before.before.before.before
+abbrev third : tie.After-find_joined-2 → tie.After-find_part-two
+third e = e.before.before.before.before.before.before.before.before
 
 -- the total after the first find, and after the second
-one-small : (e : tie.After-find-joined2) → e.find-joined2.result ≤ 40000
+one-small : (e : tie.After-find_joined-one) → e.find_joined-one.result ≤ 40000
 one-small e =
     let s = call (long e).before in
     let P = s.args.phrase.now in
@@ -46,124 +46,118 @@ one-small e =
     let head = take side s.args.letters.now in
     omega (
       arith,
-      e.find-joined2.ensures.1,
+      e.find_joined-one.ensures.1,
       occurrences-few P (B ++ [] ++ head),
       length-append (B ++ []) head,
       length-append B [],
-      length-take-le side s.args.letters.now (omega (arith, (long e).if1.false)),
+      length-take-le side s.args.letters.now (omega (arith, (long e).if-size-side.false)),
       (limits s).short,
-      s.pre.1.1.1.0,
-      s.pre.1.1.1.1.1.1,
+      s.requires.1.1.1.0,
+      s.requires.1.1.1.1.1.1,
     )
 
-two-small : (e : tie.After-find-part) → e.find-part.result ≤ 80000
+two-small : (e : tie.After-find_part-two) → e.find_part-two.result ≤ 80000
 two-small e =
     let s = call (long (second e)).before in
-    omega (arith, e.find-part.ensures.1, occurrences-few s.args.phrase.now s.args.letters.now, (limits s).small, one-small (second e))
+    omega (arith, e.find_part-two.ensures.1, occurrences-few s.args.phrase.now s.args.letters.now, (limits s).small, one-small (second e))
 
-sub-side : tie.Need-overflow-sub-side
+sub-side : tie.Need-overflow_sub-side
 sub-side c = (limits (call c)).some
 
-find-joined-requires : tie.Need-find-joined-requires
+find-joined-requires : tie.Need-find_joined-requires
 find-joined-requires c κs =
     let t = c.before.before in
     let s = call t.before in (
       few-letters s _ refl,
       (
-        omega (arith, t.if1.true, s.pre.1.0, s.pre.1.1.1.0, s.pre.1.1.1.1.0),
-        (omega (arith, s.pre.1.1.1.1.1.0), omega (arith, s.pre.1.1.1.1.1.1)),
+        omega (arith, t.if-size-side.true, s.requires.1.0, s.requires.1.1.1.0, s.requires.1.1.1.1.0),
+        (omega (arith, s.requires.1.1.1.1.1.0), omega (arith, s.requires.1.1.1.1.1.1)),
       ),
     )
 
-same_length : tie.Need-same-length
+same_length : tie.Need-shape_of-room-then-size-side
 same_length c = search rules
 
-same-length-2 : tie.Need-same-length-2
+same-length-2 : tie.Need-shape_of-answer-then-size-side
 same-length-2 c = search rules
 
-returns : tie.Need-returns
-returns c = c.before.before.before.before.find-joined.ensures
+returns : tie.Need-returns-then-size-side
+returns c = c.find_joined.ensures
 
-add-seam : tie.Need-overflow-add-seam
+add-seam : tie.Need-overflow_add-seam
 add-seam c = search rules
 
-sub-tail : tie.Need-overflow-sub-tail
+sub-tail : tie.Need-overflow_sub-tail
 sub-tail c = search rules
 
-slice-aggregate-head : tie.Need-slice-aggregate-head
+slice-aggregate-head : tie.Need-slice_bounds-head-end
 slice-aggregate-head c =
-    let d = c.before in
+    let d = c in
     let s = call d.before in
-    sym (length-take-le (length s.args.phrase.now - 1) s.args.letters.now (omega (arith, d.if1.false)))
+    sym (length-take-le (length s.args.phrase.now - 1) s.args.letters.now (omega (arith, d.if-size-side.false)))
 
-slice-aggregate-find-joined : tie.Need-slice-aggregate-find-joined
-slice-aggregate-find-joined c = search rules
-
-find-joined-requires-2 : tie.Need-find-joined-requires-2
+find-joined-requires-2 : tie.Need-find_joined-one-requires
 find-joined-requires-2 c κs =
     let d = c.before.before.before.before in
     let s = call d.before in
     let side = length s.args.phrase.now - 1 in (
       few-letters s _ refl,
       (
-        omega (arith, d.if1.false, length-take-le side s.args.letters.now (omega (arith, d.if1.false)), s.pre.1.0, s.pre.1.1.1.0),
-        (omega (arith, s.pre.1.1.1.1.1.0), omega (arith, s.pre.1.1.1.1.1.1)),
+        omega (arith, d.if-size-side.false, length-take-le side s.args.letters.now (omega (arith, d.if-size-side.false)), s.requires.1.0, s.requires.1.1.1.0),
+        (omega (arith, s.requires.1.1.1.1.1.0), omega (arith, s.requires.1.1.1.1.1.1)),
       ),
     )
 
-find-part-requires : tie.Need-find-part-requires
+find-part-requires : tie.Need-find_part-two-requires
 find-part-requires c κs =
     let e = c.before.before.before.before.before in
     let s = call (long e).before in
-    (s.pre.0, (omega (arith, s.pre.1.1.1.1.1.0), omega (arith, one-small e)))
+    (s.requires.0, (omega (arith, s.requires.1.1.1.1.1.0), omega (arith, one-small e)))
 
-sub-end : tie.Need-overflow-sub-end
+sub-end : tie.Need-slice_bounds-end-count
 sub-end c = search rules
 
-part-end-start : tie.Need-slice-bounds-end-start
+part-end-start : tie.Need-slice_bounds-end-start
 part-end-start c = search rules
 
-part-end-end : tie.Need-slice-bounds-end-end
+part-end-end : tie.Need-slice_bounds-end-end
 part-end-end c = search rules
 
-slice-aggregate-find-joined-2 : tie.Need-slice-aggregate-find-joined-2
-slice-aggregate-find-joined-2 c = search rules
-
-add-find-joined : tie.Need-overflow-add-find-joined
+add-find-joined : tie.Need-overflow_add-seam-2
 add-find-joined c = search rules
 
-find-joined-requires-3 : tie.Need-find-joined-requires-3
+find-joined-requires-3 : tie.Need-find_joined-requires-2
 find-joined-requires-3 c κs =
-    let e = c.before.before.before.before.before.before in
+    let e = c.before.before.before.before.before.before.before in
     let r = e.before.before.before.before.before in
     let s = call (long (second e)).before in
     let L = s.args.letters.now in
     let tail = length L - (length s.args.phrase.now - 1) in (
-      few-letters s _ r.room2.given,
+      few-letters s _ r.room-2-1.given,
       (
-        omega (arith, ap length (from_is L tail), length-drop tail L, s.pre.1.0, s.pre.1.1.1.1.0, r.room2.given, (long (second e)).if1.false),
-        (omega (arith, s.pre.1.1.1.1.1.0, (limits s).some), omega (arith, two-small e)),
+        omega (arith, ap length (from_is L tail), length-drop tail L, s.requires.1.0, s.requires.1.1.1.1.0, r.room-2-1.given, (long (second e)).if-size-side.false),
+        (omega (arith, s.requires.1.1.1.1.1.0, (limits s).some), omega (arith, two-small e)),
       ),
     )
 
-same-length-3 : tie.Need-same-length-3
+same-length-3 : tie.Need-shape_of-room
 same-length-3 c = search rules
 
-same-length-4 : tie.Need-same-length-4
+same-length-4 : tie.Need-shape_of-answer
 same-length-4 c = search rules
 
-returns-2 : tie.Need-returns-2
+returns-2 : tie.Need-returns
 returns-2 c =
     let t = c.before.before.before.before in
     let e = third t in
     let d = long (second e) in
     let s = call d.before in
-    three-found s.args.phrase.now s.args.before.now s.args.letters.now s.args.after.now (limits s).some s.pre.1.1.1.0 s.pre.1.1.1.1.0
-    (omega (arith, d.if1.left, (limits s).some)) s.args.place s.args.total s.args.answer.now
-    (second e).find-joined2.ensures.0 (second e).find-joined2.ensures.1 e.find-part.ensures.0 e.find-part.ensures.1 t.find-joined3.ensures.0 t.find-joined3.ensures.1
+    three-found s.args.phrase.now s.args.before.now s.args.letters.now s.args.after.now (limits s).some s.requires.1.1.1.0 s.requires.1.1.1.1.0
+    (omega (arith, d.if-size-side.false, (limits s).some)) s.args.place s.args.total s.args.answer.now
+    (second e).find_joined-one.ensures.0 (second e).find_joined-one.ensures.1 e.find_part-two.ensures.0 e.find_part-two.ensures.1 t.find_joined-2.ensures.0 t.find_joined-2.ensures.1
 
-pub find-around-spec : {M : Type 1} → statement M
-find-around-spec =
+pub find_around_spec : {M : Type 1} → statement M
+find_around_spec =
     tie.close
     (tie.spec
     sub-side
@@ -174,13 +168,11 @@ find-around-spec =
     add-seam
     sub-tail
     slice-aggregate-head
-    slice-aggregate-find-joined
     find-joined-requires-2
     find-part-requires
     sub-end
     part-end-start
     part-end-end
-    slice-aggregate-find-joined-2
     add-find-joined
     find-joined-requires-3
     same-length-3

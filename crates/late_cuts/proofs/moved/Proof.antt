@@ -20,17 +20,17 @@ read c = ap₂ (λ (a b : ℤ). a +ℤ b) (to_z_pos w32 c.args.place (omega (ari
 sum_fits : (c : tie.Start) → SFits w32 (sum c)
 sum_fits c = record { sfits = omega (arith, sum-small c.args.place c.args.by, c.requires.small, c.requires.change) }
 
-cast-sum : tie.Need-overflow-cast-sum
+cast-sum : tie.Need-overflow_cast-sum
 cast-sum c = record { sfits = omega (arith, c.requires.small) }
 
-add-sum : tie.Need-overflow-add-sum
+add-sum : tie.Need-overflow_add-sum
 add-sum c = subst (SFits w32) (sym (read c)) (sum_fits c)
 
 -- the bits of the sum, read back
 back : (c : tie.Start) → to_z w32 (of_z w32 (to_z w32 c.args.place +ℤ to_z w32 (of_z w32 c.args.by))) ≡ sum c
 back c = to_z-of_z w32 _ (add-sum c) ∙ read c
 
-cast-result : tie.Need-overflow-cast-result
+cast-result : tie.Need-overflow_cast-result
 cast-result c = (
   yes_non_neg (subst (λ (z : ℤ). pos 0 ≤ℤ z) (sym (back c)) c.requires.above),
   subst (λ (z : ℤ). Fits w32 (nat_abs z)) (sym (back c)) (record { fits = omega (arith, nat_abs-le (sum c) (sum_fits c).sfits) }),
@@ -39,5 +39,5 @@ cast-result c = (
 returns : tie.Need-returns
 returns c = ap nat_abs (back c)
 
-pub moved-spec : {M : Type 1} → statement M
-moved-spec = tie.close (tie.spec cast-sum add-sum cast-result returns)
+pub moved_spec : {M : Type 1} → statement M
+moved_spec = tie.close (tie.spec cast-sum add-sum cast-result returns)

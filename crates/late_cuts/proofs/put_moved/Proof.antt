@@ -30,12 +30,12 @@ abbrev Left : List ℕ → ℕ → ℕ → ℤ → List ℕ → ℕ → List ℕ
 Left list from end by answer₀ total answer count i =
     Putting (received_from total answer₀ (moving list end by from)) (total + length (moving list end by from)) count answer (moving list end by i)
 
-abbrev invariant-loop : tie.invariant-loop
-invariant-loop list from end by answer₀ total count₀ i₀ answer count i =
+abbrev invariant-loop-i : tie.invariant-loop-i
+invariant-loop-i list from end by answer₀ total count₀ i₀ answer count i =
     Left list from end (to_z w32 by) answer₀ total answer count i × ((length answer ≡ length answer₀) × ((i ≤ length list) × (count + from ≤ total + i)))
 
-abbrev decreases-loop : tie.decreases-loop
-decreases-loop list from end by answer₀ total count₀ i₀ answer count i = length list - i
+abbrev decreases-loop-i : tie.decreases-loop-i
+decreases-loop-i list from end by answer₀ total count₀ i₀ answer count i = length list - i
 
 module _ (list : List ℕ) (from end : ℕ) (by : ℤ) (answer₀ : List ℕ) (total : ℕ) (answer : List ℕ) (count i : ℕ) (left : Left list from end by answer₀ total answer count i) where
   module _ (h : i < length list) where
@@ -60,79 +60,79 @@ module _ (list : List ℕ) (from end : ℕ) (by : ℤ) (answer₀ : List ℕ) (t
       ap (λ (l : List ℕ). map (moved_by by) (those (moves end) l)) (drop_of_length-le list h) ∙ ap (map (moved_by by)) (those-nothing (moves end)) in
       put-over (subst (Putting _ _ count answer) nothing left)
 
-loop-holds : tie.Need-loop-init invariant-loop decreases-loop
-loop-holds c = (record { list = refl; total = refl }, (refl, (c.before.before.requires.0, omega arith)))
+loop-holds : tie.Need-loop-i-init invariant-loop-i decreases-loop-i
+loop-holds c = (record { list = refl; total = refl }, (refl, (c.requires.0, omega arith)))
 
-mul-place : tie.Need-overflow-mul-place invariant-loop decreases-loop
+mul-place : tie.Need-offset_bounds-list-i invariant-loop-i decreases-loop-i
 mul-place c = search rules
 
-shared-slice-read-place : tie.Need-shared-slice-read-place invariant-loop decreases-loop
-shared-slice-read-place c = omega (arith, c.before.loop-test.true)
+shared-slice-read-place : tie.Need-bounds-list-i invariant-loop-i decreases-loop-i
+shared-slice-read-place c = omega (arith, c.loop-i-test.true)
 
-cast-if1 : tie.Need-overflow-cast-if1 invariant-loop decreases-loop
-cast-if1 c = omega (arith, c.shared-slice-known2.given c.before.before.loop.i)
+cast-if1 : tie.Need-overflow_cast-place invariant-loop-i decreases-loop-i
+cast-if1 c = omega (arith, c.shared_slice_known-in-loop-i-1.given c.loop-i.i)
 
-moved-requires : tie.Need-moved-requires invariant-loop decreases-loop
+moved-requires : tie.Need-moved-there-requires invariant-loop-i decreases-loop-i
 moved-requires c κs =
     let t = c.before.before in
     let l = t.before in
     let s = l.before.before.before in
-    subst (Moves (get_or s.args.list.now l.loop.i 0)) (sym (to_z-of_z w32 s.args.by s.ranges.by)) (s.requires.1.1.1.each l.loop.i t.loop-test.true (omega (arith, c.if1.true)))
+    subst (Moves (get_or s.args.list.now l.loop-i.i 0)) (sym (to_z-of_z w32 s.args.by s.ranges.by)) (s.requires.1.1.1.each l.loop-i.i t.loop-i-test.true (omega (arith, c.if-end-place.true)))
 
-store-requires : tie.Need-store-requires invariant-loop decreases-loop
+store-requires : tie.Need-store-requires invariant-loop-i decreases-loop-i
 store-requires c κs = tt
 
-add-count : tie.Need-overflow-add-count invariant-loop decreases-loop
+add-count : tie.Need-overflow_add-count invariant-loop-i decreases-loop-i
 add-count c =
     let t = c.before.before.before.before.before.before.before in
     let l = t.before in
     let s = l.before.before.before in
-    record { fits = omega (arith, t.loop-test.true, l.loop.invariant.1.1.0, l.loop.invariant.1.1.1, s.requires.1.0, s.requires.1.1.0) }
+    record { fits = omega (arith, t.loop-i-test.true, l.loop-i.invariant.1.1.0, l.loop-i.invariant.1.1.1, s.requires.1.0, s.requires.1.1.0) }
 
-add-i : tie.Need-overflow-add-i invariant-loop decreases-loop
-add-i c = let t = c.before.before in omega (arith, t.loop-test.true, t.before.before.before.before.requires.1.1.0)
+add-i : tie.Need-overflow_add-i invariant-loop-i decreases-loop-i
+add-i c = let t = c.before.before in omega (arith, t.loop-i-test.true, t.requires.1.1.0)
 
-loop-less : tie.Need-loop-smaller invariant-loop decreases-loop
-loop-less c = omega (arith, c.before.before.loop-test.true)
+loop-less : tie.Need-loop-i-smaller invariant-loop-i decreases-loop-i
+loop-less c = omega (arith, c.loop-i-test.true)
 
-loop-again : tie.Need-loop-preserved invariant-loop decreases-loop
+loop-again : tie.Need-loop-i-preserved invariant-loop-i decreases-loop-i
 loop-again c =
     let t = c.before.before in
     let l = t.before in
-    let a = l.before.before.before.args in
+    let a = l.args in
     let by = to_z w32 (of_z w32 a.by) in
     ⊎_elim
     (λ w.
-    rw (w.6, w.7, w.3.ensures, w.1.ensures) (
-      one a.list.now a.from a.end by a.answer.now a.total l.loop.answer l.loop.count l.loop.i l.loop.invariant.0 t.loop-test.true (omega (arith, w.0.taken)),
-      (length-set l.loop.answer l.loop.count (moved_by by (get_or a.list.now l.loop.i 0)) ∙ l.loop.invariant.1.0, (omega (arith, t.loop-test.true), omega (arith, l.loop.invariant.1.1.1))),
+    rw (w.answer-is, w.count-is, w.store.ensures, w.moved-there.ensures) (
+      one a.list.now a.from a.end by a.answer.now a.total l.loop-i.answer l.loop-i.count l.loop-i.i l.loop-i.invariant.0 t.loop-i-test.true (omega (arith, w.if-end-place.true)),
+      (length-set l.loop-i.answer l.loop-i.count (moved_by by (get_or a.list.now l.loop-i.i 0)) ∙ l.loop-i.invariant.1.0, (omega (arith, t.loop-i-test.true), omega (arith, l.loop-i.invariant.1.1.1))),
     ))
     (λ w.
-    rw (w.1, w.2) (
-      none a.list.now a.from a.end by a.answer.now a.total l.loop.answer l.loop.count l.loop.i l.loop.invariant.0 t.loop-test.true (omega (arith, w.0.left)),
-      (l.loop.invariant.1.0, (omega (arith, t.loop-test.true), omega (arith, l.loop.invariant.1.1.1))),
+    rw (w.answer-is, w.count-is) (
+      none a.list.now a.from a.end by a.answer.now a.total l.loop-i.answer l.loop-i.count l.loop-i.i l.loop-i.invariant.0 t.loop-i-test.true (omega (arith, w.if-end-place.false)),
+      (l.loop-i.invariant.1.0, (omega (arith, t.loop-i-test.true), omega (arith, l.loop-i.invariant.1.1.1))),
     ))
-    c.if1.branch
+    c.if-end-place.branch-raw
 
-same_length : tie.Need-same-length invariant-loop decreases-loop
-same_length c = c.before.loop.invariant.1.0
+same_length : tie.Need-shape_of-answer invariant-loop-i decreases-loop-i
+same_length c = c.loop-i.invariant.1.0
 
-returns : tie.Need-returns invariant-loop decreases-loop
+returns : tie.Need-returns invariant-loop-i decreases-loop-i
 returns c =
     let l = c.before in
     let s = l.before.before.before in
     let a = s.args in
     let back : to_z w32 (of_z w32 a.by) ≡ a.by = to_z-of_z w32 a.by s.ranges.by in
-    let left = subst (λ (z : ℤ). Left a.list.now a.from a.end z a.answer.now a.total l.loop.answer l.loop.count l.loop.i) back l.loop.invariant.0 in
-    let o = over a.list.now a.from a.end a.by a.answer.now a.total l.loop.answer l.loop.count l.loop.i left c.loop-test.false in
+    let left = subst (λ (z : ℤ). Left a.list.now a.from a.end z a.answer.now a.total l.loop-i.answer l.loop-i.count l.loop-i.i) back l.loop-i.invariant.0 in
+    let o = over a.list.now a.from a.end a.by a.answer.now a.total l.loop-i.answer l.loop-i.count l.loop-i.i left c.loop-i-test.false in
     (o.0, o.1 ∙ ap (λ (n : ℕ). a.total + n) (length-map (those (moves a.end) (drop a.from a.list.now)) (moved_by a.by)))
 
-pub put-moved-spec : {M : Type 1} → statement M
-put-moved-spec =
+pub put_moved_spec : {M : Type 1} → statement M
+put_moved_spec =
     tie.close
     (tie.spec
-    invariant-loop
-    decreases-loop
+    invariant-loop-i
+    decreases-loop-i
     loop-holds
     mul-place
     shared-slice-read-place

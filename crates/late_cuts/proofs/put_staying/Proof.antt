@@ -23,12 +23,12 @@ Left list m start answer₀ answer i =
     let all = those (stays m start) list in
     Putting (received answer₀ all) (length all) i answer (those (stays m start) (drop i list))
 
-abbrev invariant-loop : tie.invariant-loop
-invariant-loop list m start answer₀ i₀ answer i =
+abbrev invariant-loop-i : tie.invariant-loop-i
+invariant-loop-i list m start answer₀ i₀ answer i =
     Left list m start answer₀ answer i × ((rises (drop i list) ≡ true) × (length answer ≡ length answer₀))
 
-abbrev decreases-loop : tie.decreases-loop
-decreases-loop list m start answer₀ i₀ answer i = length list - i
+abbrev decreases-loop-i : tie.decreases-loop-i
+decreases-loop-i list m start answer₀ i₀ answer i = length list - i
 
 module _ (list : List ℕ) (m start : ℕ) (answer₀ answer : List ℕ) (i : ℕ) (left : Left list m start answer₀ answer i) where
   -- the next place
@@ -57,70 +57,70 @@ module _ (list : List ℕ) (m start : ℕ) (answer₀ answer : List ℕ) (i : �
       let none : those (stays m start) (drop i list) ≡ [] = ap (those (stays m start)) (drop_of_length-le list h) ∙ those-nothing (stays m start) in
       put-over (subst (Putting _ _ i answer) none left)
 
-loop-holds : tie.Need-loop-init invariant-loop decreases-loop
-loop-holds c = (record { list = refl; total = omega arith }, (c.before.before.requires.1, refl))
+loop-holds : tie.Need-loop-i-init invariant-loop-i decreases-loop-i
+loop-holds c = (record { list = refl; total = omega arith }, (c.requires.1, refl))
 
-mul-place : tie.Need-overflow-mul-place invariant-loop decreases-loop
+mul-place : tie.Need-offset_bounds-list-i invariant-loop-i decreases-loop-i
 mul-place c = search rules
 
-shared-slice-read-place : tie.Need-shared-slice-read-place invariant-loop decreases-loop
-shared-slice-read-place c = omega (arith, c.before.loop-test.true)
+shared-slice-read-place : tie.Need-bounds-list-i invariant-loop-i decreases-loop-i
+shared-slice-read-place c = omega (arith, c.loop-i-test.true)
 
-cast-if1 : tie.Need-overflow-cast-if1 invariant-loop decreases-loop
-cast-if1 c = omega (arith, c.shared-slice-known2.given c.before.before.loop.i)
+cast-if1 : tie.Need-overflow_cast-place invariant-loop-i decreases-loop-i
+cast-if1 c = omega (arith, c.shared_slice_known-in-loop-i-1.given c.loop-i.i)
 
-add-if1 : tie.Need-overflow-add-if1 invariant-loop decreases-loop
-add-if1 c = omega (arith, c.shared-slice-known2.given c.before.before.loop.i, c.before.before.before.before.before.requires.0)
+add-if1 : tie.Need-overflow_add-place invariant-loop-i decreases-loop-i
+add-if1 c = omega (arith, c.shared_slice_known-in-loop-i-1.given c.loop-i.i, c.requires.0)
 
-same_length : tie.Need-same-length invariant-loop decreases-loop
-same_length c = c.before.before.before.loop.invariant.1.1
+same_length : tie.Need-shape_of-answer-then-start-place invariant-loop-i decreases-loop-i
+same_length c = c.loop-i.invariant.1.1
 
-returns : tie.Need-returns invariant-loop decreases-loop
+returns : tie.Need-returns-then-start-place invariant-loop-i decreases-loop-i
 returns c =
     let t = c.before.before in
     let l = t.before in
-    let a = l.before.before.before.args in
-    ended a.list.now a.m a.start a.answer.now l.loop.answer l.loop.i l.loop.invariant.0 l.loop.invariant.1.0 t.loop-test.true (omega (arith, c.if1.true))
+    let a = l.args in
+    ended a.list.now a.m a.start a.answer.now l.loop-i.answer l.loop-i.i l.loop-i.invariant.0 l.loop-i.invariant.1.0 t.loop-i-test.true (omega (arith, c.if-start-place.true))
 
-store-requires : tie.Need-store-requires invariant-loop decreases-loop
+store-requires : tie.Need-store-requires invariant-loop-i decreases-loop-i
 store-requires c κs = search rules
 
-add-i : tie.Need-overflow-add-i invariant-loop decreases-loop
+add-i : tie.Need-overflow_add-i invariant-loop-i decreases-loop-i
 add-i c = search rules
 
-loop-less : tie.Need-loop-smaller invariant-loop decreases-loop
-loop-less c = omega (arith, c.before.before.before.before.before.before.loop-test.true)
+loop-less : tie.Need-loop-i-smaller invariant-loop-i decreases-loop-i
+loop-less c = omega (arith, c.loop-i-test.true)
 
-loop-again : tie.Need-loop-preserved invariant-loop decreases-loop
+loop-again : tie.Need-loop-i-preserved invariant-loop-i decreases-loop-i
 loop-again c =
     let s = c.before.before in
     let e = s.before.before in
     let t = e.before.before in
     let l = t.before in
-    let a = l.before.before.before.args in
+    let a = l.args in
     rw s.store.ensures (
-      one a.list.now a.m a.start a.answer.now l.loop.answer l.loop.i l.loop.invariant.0 l.loop.invariant.1.0 t.loop-test.true (omega (arith, e.if1.false)),
+      one a.list.now a.m a.start a.answer.now l.loop-i.answer l.loop-i.i l.loop-i.invariant.0 l.loop-i.invariant.1.0 t.loop-i-test.true (omega (arith, e.if-start-place.false)),
       (
-        rising-next a.list.now a.m a.start a.answer.now l.loop.answer l.loop.i l.loop.invariant.0 l.loop.invariant.1.0 t.loop-test.true,
-        simp length-set l.loop.invariant.1.1,
+        rising-next a.list.now a.m a.start a.answer.now l.loop-i.answer l.loop-i.i l.loop-i.invariant.0 l.loop-i.invariant.1.0 t.loop-i-test.true,
+        simp length-set l.loop-i.invariant.1.1,
       ),
     )
 
-same-length-2 : tie.Need-same-length-2 invariant-loop decreases-loop
-same-length-2 c = c.before.loop.invariant.1.1
+same-length-2 : tie.Need-shape_of-answer invariant-loop-i decreases-loop-i
+same-length-2 c = c.loop-i.invariant.1.1
 
-returns-2 : tie.Need-returns-2 invariant-loop decreases-loop
+returns-2 : tie.Need-returns invariant-loop-i decreases-loop-i
 returns-2 c =
     let l = c.before in
-    let a = l.before.before.before.args in
-    over a.list.now a.m a.start a.answer.now l.loop.answer l.loop.i l.loop.invariant.0 c.loop-test.false
+    let a = l.args in
+    over a.list.now a.m a.start a.answer.now l.loop-i.answer l.loop-i.i l.loop-i.invariant.0 c.loop-i-test.false
 
-pub put-staying-spec : {M : Type 1} → statement M
-put-staying-spec =
+pub put_staying_spec : {M : Type 1} → statement M
+put_staying_spec =
     tie.close
     (tie.spec
-    invariant-loop
-    decreases-loop
+    invariant-loop-i
+    decreases-loop-i
     loop-holds
     mul-place
     shared-slice-read-place
