@@ -5,11 +5,11 @@ use Prim.Native.Nat.{ℕ}
 use Rattle.cue_book.proofs.read_book.Statement.{statement}
 use Rattle.cue_book.proofs.read_book.Tie as tie
 
-walk-requires : tie.Need-walk-requires
+walk-requires : tie.Need-walk-w-requires
 walk-requires c κs = search rules
 
 returns : tie.Need-returns
-returns c = let w = c.walk.ensures in ap₂ (λ (r n : ℕ). record { refusal = r; number = n }) w.refusal w.number
+returns c = let w = c.walk-w.ensures in ap₂ (λ (r n : ℕ). record { refusal = r; number = n }) w.refusal w.number
 
-pub read-book-spec : {M : Type 1} → statement M
-read-book-spec = tie.close (tie.spec walk-requires returns)
+pub read_book_spec : {M : Type 1} → statement M
+read_book_spec = tie.close (tie.spec walk-requires returns)

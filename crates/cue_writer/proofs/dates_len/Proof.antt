@@ -4,17 +4,17 @@ use mathlib.Core.Path.{refl}
 use Rattle.cue_writer.proofs.dates_len.Statement.{statement}
 use Rattle.cue_writer.proofs.dates_len.Tie as tie
 
-enum_told : tie.Need-enum-told
+enum_told : tie.Need-enum_told-1
 enum_told c = search rules
 
-enum-told-2 : tie.Need-enum-told-2
+enum-told-2 : tie.Need-enum_told-in-Within
 enum-told-2 c = search rules
 
-returns : tie.Need-returns
-returns c = rw c.enum_told.given.1 refl
+returns : tie.Need-returns-in-Always
+returns c = rw c.in-Always.is refl
 
-returns-2 : tie.Need-returns-2
-returns-2 c = rw c.enum-told2.given.1 refl
+returns-2 : tie.Need-returns-in-Within
+returns-2 c = rw c.in-Within.is refl
 
-pub dates-len-spec : {M : Type 1} → statement M
-dates-len-spec = tie.close (tie.spec enum_told enum-told-2 returns returns-2)
+pub dates_len_spec : {M : Type 1} → statement M
+dates_len_spec = tie.close (tie.spec enum_told enum-told-2 returns returns-2)

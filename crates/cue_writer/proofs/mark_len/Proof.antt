@@ -6,13 +6,13 @@ use Rattle.cue_writer.specs.Writing.{mark_given}
 use Rattle.cue_writer.proofs.mark_len.Statement.{statement}
 use Rattle.cue_writer.proofs.mark_len.Tie as tie
 
-returns : tie.Need-returns
+returns : tie.Need-returns-then-house-eq0
 unfolding mark_given
-returns c = rw (eq-eqb c.before.args.house 0 (omega (arith, c.if1.true))) refl
+returns c = rw (eq-eqb c.args.house 0 (omega (arith, c.if-house-eq0.true))) refl
 
-returns-2 : tie.Need-returns-2
+returns-2 : tie.Need-returns
 unfolding mark_given
-returns-2 c = rw (ne_eqb c.before.args.house 0 (λ z. omega (arith, c.if1.false))) refl
+returns-2 c = rw (ne_eqb c.args.house 0 (λ z. omega (arith, c.if-house-eq0.false))) refl
 
-pub mark-len-spec : {M : Type 1} → statement M
-mark-len-spec = tie.close (tie.spec returns returns-2)
+pub mark_len_spec : {M : Type 1} → statement M
+mark_len_spec = tie.close (tie.spec returns returns-2)

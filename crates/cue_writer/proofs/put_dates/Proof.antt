@@ -11,48 +11,48 @@ use Rattle.cue_writer.proofs.put_dates.Statement.{statement}
 use Rattle.cue_writer.proofs.put_dates.Tie as tie
 
 -- the two days are in their order and in the calendar, so each fits into two bytes
-ordered : (d : tie.After-known-told) → let g = d.before.days.given in (g.0.0 ≤ g.0.1.0) × (g.0.1.0 ≤ last_day)
+ordered : (d : tie.In-Within) → let g = d.in-Within in (g.first ≤ g.last) × (g.last ≤ last_day)
 ordered d =
-    let g = d.before.days.given in
-    days-passed g.0.0 g.0.1.0 (ap dates_refusal (sym g.1) ∙ d.before.before.before.before.requires)
+    let g = d.in-Within in
+    days-passed g.first g.last (ap dates_refusal (sym g.is) ∙ d.requires)
 
-returns-2 : tie.Need-returns-2
+returns-2 : tie.Need-returns
 returns-2 c =
     let f = c.before.before in
-    rw f.before.before.before.before.days.given.1 f.put-field.ensures
+    rw f.in-Within.is f.put_field.ensures
 
-enum-known-days : tie.Need-enum-known-days
+enum-known-days : tie.Need-enum_known-days
 enum-known-days c = search rules
 
-enum_told : tie.Need-enum-told
+enum_told : tie.Need-enum_told-1
 enum_told c = search rules
 
-returns : tie.Need-returns
-returns c = rw c.enum_told.given.1 (laid_none _ _)
+returns : tie.Need-returns-in_default
+returns c = rw c.in_default.is (laid_none _ _)
 
-cast-first-high : tie.Need-overflow-cast-first-high
+cast-first-high : tie.Need-overflow_cast-first_high
 cast-first-high c = omega (arith, (ordered c).0, (ordered c).1)
 
-cast-first-low : tie.Need-overflow-cast-first-low
+cast-first-low : tie.Need-overflow_cast-first_low
 cast-first-low c = omega (arith, (ordered c).0, (ordered c).1)
 
-cast-last-high : tie.Need-overflow-cast-last-high
+cast-last-high : tie.Need-overflow_cast-last_high
 cast-last-high c = omega (arith, (ordered c).0, (ordered c).1)
 
-cast-last-low : tie.Need-overflow-cast-last-low
+cast-last-low : tie.Need-overflow_cast-last_low
 cast-last-low c = omega (arith, (ordered c).0, (ordered c).1)
 
-slice-aggregate-put-field : tie.Need-slice-aggregate-put-field
+slice-aggregate-put-field : tie.Need-slice_bounds-put_field-end
 slice-aggregate-put-field c = search rules
 
-put-field-requires : tie.Need-put-field-requires
+put-field-requires : tie.Need-put_field-requires
 put-field-requires c κs = search rules
 
-same_length : tie.Need-same-length
+same_length : tie.Need-shape_of-buffer
 same_length c = search rules
 
-pub put-dates-spec : {M : Type 1} → statement M
-put-dates-spec =
+pub put_dates_spec : {M : Type 1} → statement M
+put_dates_spec =
     tie.close
     (tie.spec
     enum-known-days

@@ -7,25 +7,25 @@ use Rattle.cue_writer.specs.Writing.{mark_given}
 use Rattle.cue_writer.proofs.put_mark.Statement.{statement}
 use Rattle.cue_writer.proofs.put_mark.Tie as tie
 
-returns : tie.Need-returns
+returns : tie.Need-returns-then-house-eq0
 unfolding mark_given
-returns c = rw (eq-eqb c.before.before.args.house 0 (omega (arith, c.if1.true))) (laid_none _ _)
+returns c = rw (eq-eqb c.args.house 0 (omega (arith, c.if-house-eq0.true))) (laid_none _ _)
 
-slice-aggregate-put-field : tie.Need-slice-aggregate-put-field
+slice-aggregate-put-field : tie.Need-slice_bounds-put_field-end
 slice-aggregate-put-field c = search rules
 
-put-field-requires : tie.Need-put-field-requires
+put-field-requires : tie.Need-put_field-requires
 put-field-requires c κs = search rules
 
-same_length : tie.Need-same-length
+same_length : tie.Need-shape_of-buffer
 same_length c = search rules
 
-returns-2 : tie.Need-returns-2
+returns-2 : tie.Need-returns
 unfolding mark_given
 returns-2 c =
     let f = c.before.before in
     let e = f.before.before.before in
-    rw (ne_eqb e.before.before.args.house 0 (λ z. omega (arith, e.if1.false, z))) f.put-field.ensures
+    rw (ne_eqb e.args.house 0 (λ z. omega (arith, e.if-house-eq0.false, z))) f.put_field.ensures
 
-pub put-mark-spec : {M : Type 1} → statement M
-put-mark-spec = tie.close (tie.spec returns slice-aggregate-put-field put-field-requires same_length returns-2)
+pub put_mark_spec : {M : Type 1} → statement M
+put_mark_spec = tie.close (tie.spec returns slice-aggregate-put-field put-field-requires same_length returns-2)

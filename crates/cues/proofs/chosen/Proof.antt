@@ -5,17 +5,17 @@ use borrow.Author.Tests.{not-true, not-false}
 use Rattle.cues.proofs.chosen.Statement.{statement}
 use Rattle.cues.proofs.chosen.Tie as tie
 
-sees-mark-requires : tie.Need-sees-mark-requires
+sees-mark-requires : tie.Need-sees_mark-requires
 sees-mark-requires c κs = search rules
 
-returns : tie.Need-returns
-returns c = let s = c.before in rw (sym s.sees-mark.ensures ∙ not-true s.sees-mark.result c.if1.true)
+returns : tie.Need-returns-then-not-sees_mark
+returns c = let s = c.before in rw (sym s.sees_mark.ensures ∙ not-true s.sees_mark.result c.if-not-sees_mark.true-raw)
 
 plays-requires : tie.Need-plays-requires
 plays-requires c κs = search rules
 
-returns-2 : tie.Need-returns-2
-returns-2 c = let s = c.before.before in rw (sym s.sees-mark.ensures ∙ not-false s.sees-mark.result c.before.if1.false) c.plays.ensures
+returns-2 : tie.Need-returns
+returns-2 c = let s = c.before.before in rw (sym s.sees_mark.ensures ∙ not-false s.sees_mark.result c.if-not-sees_mark.false-raw) c.plays.ensures
 
-pub chosen-spec : {M : Type 1} → statement M
-chosen-spec = tie.close (tie.spec sees-mark-requires returns plays-requires returns-2)
+pub chosen_spec : {M : Type 1} → statement M
+chosen_spec = tie.close (tie.spec sees-mark-requires returns plays-requires returns-2)

@@ -21,26 +21,26 @@ unfolding days_from
 some [] h = absurd (h refl)
 some (x ∷ l) h = refl
 
-returns : tie.Need-returns
-returns c = none c.before.before.args.body.now c.if1.true
+returns : tie.Need-returns-then-body-eq0
+returns c = none c.args.body.now c.if-body-eq0.true
 
-number-at-requires : tie.Need-number-at-requires
+number-at-requires : tie.Need-number_at-first-requires
 number-at-requires c κs = search rules
 
-cast-first : tie.Need-overflow-cast-first
+cast-first : tie.Need-overflow_cast-first
 cast-first c = search rules
 
-number-from-requires : tie.Need-number-from-requires
+number-from-requires : tie.Need-number_from-last-requires
 number-from-requires c κs = search rules
 
-cast-last : tie.Need-overflow-cast-last
+cast-last : tie.Need-overflow_cast-last
 cast-last c = search rules
 
-returns-2 : tie.Need-returns-2
+returns-2 : tie.Need-returns
 returns-2 c =
     let n = c.before in
     let e = n.before in
-    ap₂ Within n.number_at.ensures.0 c.number-from.ensures.0 ∙ some e.before.before.args.body.now e.if1.false
+    ap₂ Within n.number_at-first.ensures.0 c.number_from-last.ensures.0 ∙ some e.args.body.now e.if-body-eq0.false
 
-pub days-in-spec : {M : Type 1} → statement M
-days-in-spec = tie.close (tie.spec returns number-at-requires cast-first number-from-requires cast-last returns-2)
+pub days_in_spec : {M : Type 1} → statement M
+days_in_spec = tie.close (tie.spec returns number-at-requires cast-first number-from-requires cast-last returns-2)

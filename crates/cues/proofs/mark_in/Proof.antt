@@ -27,23 +27,23 @@ unfolding mark_from
 marked-house [] h e = absurd (h refl)
 marked-house (x ∷ l) h e = rw (ne_eqb x 0 e)
 
-returns : tie.Need-returns
-returns c = none c.before.before.args.body.now (omega (arith, c.if1.true))
+returns : tie.Need-returns-then-body-eq0
+returns c = none c.args.body.now (omega (arith, c.if-body-eq0.true))
 
-mark-at-requires : tie.Need-mark-at-requires
+mark-at-requires : tie.Need-mark_at-requires
 mark-at-requires c κs = search rules
 
-returns-2 : tie.Need-returns-2
+returns-2 : tie.Need-returns-then-mark_at-eq0
 returns-2 c =
     let m = c.before in
     let e = m.before in
-    marked-open e.before.before.args.body.now e.if1.false (omega (arith, m.mark-at.ensures, c.if2.true))
+    marked-open e.args.body.now e.if-body-eq0.false (omega (arith, m.mark_at.ensures, c.if-mark_at-eq0.true))
 
-returns-3 : tie.Need-returns-3
+returns-3 : tie.Need-returns
 returns-3 c =
     let m = c.before in
     let e = m.before in
-    marked-house e.before.before.args.body.now e.if1.false (λ z. omega (arith, m.mark-at.ensures, c.if2.false, z))
+    marked-house e.args.body.now e.if-body-eq0.false (λ z. omega (arith, m.mark_at.ensures, c.if-mark_at-eq0.false, z))
 
-pub mark-in-spec : {M : Type 1} → statement M
-mark-in-spec = tie.close (tie.spec returns mark-at-requires returns-2 returns-3)
+pub mark_in_spec : {M : Type 1} → statement M
+mark_in_spec = tie.close (tie.spec returns mark-at-requires returns-2 returns-3)

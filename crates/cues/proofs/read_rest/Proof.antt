@@ -13,101 +13,101 @@ use Rattle.cues.proofs.read_rest.Statement.{statement}
 use Rattle.cues.proofs.read_rest.Tie as tie
 
 -- the places of this proof: where the call came in, where a field stands, and where the dates were read
-abbrev start : tie.Else1 → tie.Start
+abbrev start : tie.Else-not-more_at → tie.Start
 start e = e.before.before.before
 
-abbrev some : tie.After-known-told → tie.Else1
-some k = k.before.before.before.before
+abbrev some : tie.In-Body → tie.Else-not-more_at
+some k = k.before.before
 
-abbrev dates-read : tie.After-known-told2 → tie.After-known-told
-dates-read k = k.before.before.before.before
+abbrev dates-read : tie.In-Body-fifth → tie.In-Body
+dates-read k = k.before.before
 
 -- the fields stand there, or are left out
-fourth-at : (k : tie.After-known-told) → let a = (start (some k)).args in DueAt a.book.now a.place Dates k.before.fourth.given.0.0 k.before.fourth.given.0.1.0
-fourth-at k = due-at k.before.before.before.read-due.ensures k.before.fourth.given.1
+fourth-at : (k : tie.In-Body) → let a = (start (some k)).args in DueAt a.book.now a.place Dates k.in-Body.dates k.in-Body.dates_end
+fourth-at k = due-at k.read_due-fourth.ensures k.in-Body.is
 
-fifth-at : (k : tie.After-known-told2) → let d = dates-read k in
-    DueAt (start (some d)).args.book.now d.before.fourth.given.0.1.0 House k.before.fifth.given.0.0 k.before.fifth.given.0.1.0
-fifth-at k = due-at k.before.before.before.read-due2.ensures k.before.fifth.given.1
+fifth-at : (k : tie.In-Body-fifth) → let d = dates-read k in
+    DueAt (start (some d)).args.book.now d.in-Body.dates_end House k.in-Body-fifth.house k.in-Body-fifth.end
+fifth-at k = due-at k.read_due-fifth.ensures k.in-Body-fifth.is
 
 -- and lie in the book
-dates-inside : (k : tie.After-known-told) → (k.before.fourth.given.0.0 ≤ k.before.fourth.given.0.1.0) × (k.before.fourth.given.0.1.0 ≤ length (start (some k)).args.book.now)
+dates-inside : (k : tie.In-Body) → (k.in-Body.dates ≤ k.in-Body.dates_end) × (k.in-Body.dates_end ≤ length (start (some k)).args.book.now)
 dates-inside k = let d = fourth-at k in (d.ordered, d.no-further (start (some k)).requires)
 
-mark-inside : (k : tie.After-known-told2) → (k.before.fifth.given.0.0 ≤ k.before.fifth.given.0.1.0) × (k.before.fifth.given.0.1.0 ≤ length (start (some (dates-read k))).args.book.now)
+mark-inside : (k : tie.In-Body-fifth) → (k.in-Body-fifth.house ≤ k.in-Body-fifth.end) × (k.in-Body-fifth.end ≤ length (start (some (dates-read k))).args.book.now)
 mark-inside k = let h = fifth-at k in (h.ordered, h.no-further (dates-inside (dates-read k)).1)
 
-more-at-requires : tie.Need-more-at-requires
+more-at-requires : tie.Need-more_at-requires
 more-at-requires c κs = search rules
 
-returns : tie.Need-returns
+returns : tie.Need-returns-then-not-more_at
 returns c =
     let m = c.before in
-    let a = m.before.before.args in
-    rest-none a.book.now a.place (sym m.more-at.ensures ∙ not-true m.more-at.result c.if1.true)
+    let a = m.args in
+    rest-none a.book.now a.place (sym m.more_at.ensures ∙ not-true m.more_at.result c.if-not-more_at.true-raw)
 
-read-due-requires : tie.Need-read-due-requires
+read-due-requires : tie.Need-read_due-fourth-requires
 read-due-requires c κs = search rules
 
-enum-known-fourth : tie.Need-enum-known-fourth
+enum-known-fourth : tie.Need-enum_known-fourth
 enum-known-fourth c = search rules
 
-enum_told : tie.Need-enum-told
+enum_told : tie.Need-enum_told-1
 enum_told c = search rules
 
-field-number-requires : tie.Need-field-number-requires
+field-number-requires : tie.Need-field_number-requires
 field-number-requires c κs = search rules
 
-returns-2 : tie.Need-returns-2
-returns-2 c = let r = c.before.before.before in rest-refused (House ∷ []) refl r.read-due.ensures c.before.before.match.keys2 c.field-number.ensures
+returns-2 : tie.Need-returns-in_default
+returns-2 c = rest-refused (House ∷ []) refl c.read_due-fourth.ensures c.in_default.in_default-own.keys2 c.field_number.ensures
 
-read-due-requires-2 : tie.Need-read-due-requires-2
+read-due-requires-2 : tie.Need-read_due-fifth-requires
 read-due-requires-2 c κs = search rules
 
-enum-known-fifth : tie.Need-enum-known-fifth
+enum-known-fifth : tie.Need-enum_known-fifth
 enum-known-fifth c = search rules
 
-enum-told-2 : tie.Need-enum-told-2
+enum-told-2 : tie.Need-enum_told-in_default-fifth
 enum-told-2 c = search rules
 
-field-number-requires-2 : tie.Need-field-number-requires-2
+field-number-requires-2 : tie.Need-field_number-requires-in_default-fifth
 field-number-requires-2 c κs = search rules
 
-returns-3 : tie.Need-returns-3
-returns-3 c = let r = c.before.before.before in rest-refused [] (step-refusal (fourth-at r.before) (House ∷ [])) r.read-due2.ensures c.before.before.match2.keys2 c.field-number2.ensures
+returns-3 : tie.Need-returns-in_default-fifth
+returns-3 c = let r = c.before.before.before in rest-refused [] (step-refusal (fourth-at r) (House ∷ [])) c.read_due-fifth.ensures c.in_default-fifth.in_default-fifth-own.keys2 c.field_number-in_default-fifth.ensures
 
-sub-days-in : tie.Need-overflow-sub-days-in
+sub-days-in : tie.Need-slice_bounds-days_in-count
 sub-days-in c = omega (arith, (dates-inside (dates-read c)).0)
 
-part-days-in-start : tie.Need-slice-bounds-days-in-start
+part-days-in-start : tie.Need-slice_bounds-days_in-start
 part-days-in-start c = omega (arith, (dates-inside (dates-read c)).0)
 
-part-days-in-end : tie.Need-slice-bounds-days-in-end
+part-days-in-end : tie.Need-slice_bounds-days_in-end
 part-days-in-end c = omega (arith, (dates-inside (dates-read c)).1)
 
-days-in-requires : tie.Need-days-in-requires
+days-in-requires : tie.Need-days_in-days-requires
 days-in-requires c κs = search rules
 
-sub-mark-in : tie.Need-overflow-sub-mark-in
+sub-mark-in : tie.Need-slice_bounds-mark_in-count
 sub-mark-in c = omega (arith, (mark-inside c.before.before).0)
 
-part-mark-in-start : tie.Need-slice-bounds-mark-in-start
+part-mark-in-start : tie.Need-slice_bounds-mark_in-start
 part-mark-in-start c = omega (arith, (mark-inside c.before.before).0)
 
-part-mark-in-end : tie.Need-slice-bounds-mark-in-end
+part-mark-in-end : tie.Need-slice_bounds-mark_in-end
 part-mark-in-end c = omega (arith, (mark-inside c.before.before).1)
 
-mark-in-requires : tie.Need-mark-in-requires
+mark-in-requires : tie.Need-mark_in-mark-requires
 mark-in-requires c κs = search rules
 
-returns-4 : tie.Need-returns-4
+returns-4 : tie.Need-returns
 returns-4 c =
     let d = c.before.before in
     let k = d.before.before in
-    rest-is (fourth-at (dates-read k)) (fifth-at k) d.days-in.ensures c.mark-in.ensures
+    rest-is (fourth-at (dates-read k)) (fifth-at k) d.days_in-days.ensures c.mark_in-mark.ensures
 
-pub read-rest-spec : {M : Type 1} → statement M
-read-rest-spec =
+pub read_rest_spec : {M : Type 1} → statement M
+read_rest_spec =
     tie.close
     (tie.spec
     more-at-requires

@@ -66,77 +66,76 @@ end {value} {digits} {i} {rest} f h =
     ∙ ap (λ (l : List ℕ). 32 ∷ l)
     (ap (λ (n : ℕ). drop n (set digits i (48 + rest))) e ∙ stored digits i (48 + rest) inside ∙ sym (f.all ∙ ap (λ (l : List ℕ). l ++ drop (suc i) digits) (decimal-one rest h)))
 
-abbrev invariant-loop : tie.invariant-loop
-invariant-loop buffer at value digits₀ i₀ rest₀ digits i rest = Found value digits i rest
+abbrev invariant-loop-rest : tie.invariant-loop-rest
+invariant-loop-rest buffer at value digits₀ i₀ rest₀ digits i rest = Found value digits i rest
 
-abbrev decreases-loop : tie.decreases-loop
-decreases-loop buffer at value digits₀ i₀ rest₀ digits i rest = rest
+abbrev decreases-loop-rest : tie.decreases-loop-rest
+decreases-loop-rest buffer at value digits₀ i₀ rest₀ digits i rest = rest
 
-loop-holds : tie.Need-loop-init invariant-loop decreases-loop
-loop-holds c = let a = c.before.args in start a.value (omega arith)
+loop-holds : tie.Need-loop-rest-init invariant-loop-rest decreases-loop-rest
+loop-holds c = let a = c.args in start a.value (omega arith)
 
-add-digits : tie.Need-overflow-add-digits invariant-loop decreases-loop
+add-digits : tie.Need-overflow_add-digits invariant-loop-rest decreases-loop-rest
 add-digits c = omega arith
 
-cast-digits : tie.Need-overflow-cast-digits invariant-loop decreases-loop
+cast-digits : tie.Need-overflow_cast-digits invariant-loop-rest decreases-loop-rest
 cast-digits c = omega arith
 
-array-write-digits : tie.Need-array-write-digits invariant-loop decreases-loop
-array-write-digits c = omega (arith, c.before.loop.invariant.high)
+array-write-digits : tie.Need-bounds-digits-i invariant-loop-rest decreases-loop-rest
+array-write-digits c = omega (arith, c.loop-rest.invariant.high)
 
-sub-i : tie.Need-overflow-sub-i invariant-loop decreases-loop
-sub-i c = c.before.loop.invariant.low
+sub-i : tie.Need-overflow_sub-i invariant-loop-rest decreases-loop-rest
+sub-i c = c.loop-rest.invariant.low
 
-loop-less : tie.Need-loop-smaller invariant-loop decreases-loop
+loop-less : tie.Need-loop-rest-smaller invariant-loop-rest decreases-loop-rest
 loop-less c = omega arith
 
-loop-again : tie.Need-loop-preserved invariant-loop decreases-loop
-loop-again c = next c.before.loop.invariant (omega arith)
+loop-again : tie.Need-loop-rest-preserved invariant-loop-rest decreases-loop-rest
+loop-again c = next c.loop-rest.invariant (omega arith)
 
-add-digits-2 : tie.Need-overflow-add-digits-2 invariant-loop decreases-loop
+add-digits-2 : tie.Need-overflow_add-digits-2 invariant-loop-rest decreases-loop-rest
 add-digits-2 c = omega arith
 
-cast-digits-2 : tie.Need-overflow-cast-digits-2 invariant-loop decreases-loop
+cast-digits-2 : tie.Need-overflow_cast-digits-2 invariant-loop-rest decreases-loop-rest
 cast-digits-2 c = omega arith
 
-array-write-digits-2 : tie.Need-array-write-digits-2 invariant-loop decreases-loop
-array-write-digits-2 c = omega (arith, c.before.loop.invariant.high)
+array-write-digits-2 : tie.Need-bounds-digits-i-2 invariant-loop-rest decreases-loop-rest
+array-write-digits-2 c = omega (arith, c.loop-rest.invariant.high)
 
-sub-first : tie.Need-overflow-sub-first invariant-loop decreases-loop
-sub-first c = omega (arith, c.before.loop.invariant.low)
+sub-first : tie.Need-overflow_sub-first invariant-loop-rest decreases-loop-rest
+sub-first c = omega (arith, c.loop-rest.invariant.low)
 
-sub-put-bytes : tie.Need-overflow-sub-put-bytes invariant-loop decreases-loop
-sub-put-bytes c = omega (arith, c.before.before.loop.invariant.high)
+sub-put-bytes : tie.Need-slice_bounds-put_bytes-count invariant-loop-rest decreases-loop-rest
+sub-put-bytes c = omega (arith, c.loop-rest.invariant.high)
 
-part-put-bytes-start : tie.Need-slice-bounds-put-bytes-start invariant-loop decreases-loop
-part-put-bytes-start c = omega (arith, c.before.before.before.loop.invariant.high)
+part-put-bytes-start : tie.Need-slice_bounds-put_bytes-start invariant-loop-rest decreases-loop-rest
+part-put-bytes-start c = omega (arith, c.loop-rest.invariant.high)
 
-part-put-bytes-end : tie.Need-slice-bounds-put-bytes-end invariant-loop decreases-loop
-part-put-bytes-end c = let f = c.before.before.before.loop.invariant in omega (arith, f.long, length-set c.before.before.before.loop.digits c.before.before.before.loop.i (48 + c.before.before.before.loop.rest))
+part-put-bytes-end : tie.Need-slice_bounds-put_bytes-end invariant-loop-rest decreases-loop-rest
+part-put-bytes-end c = let f = c.loop-rest.invariant in omega (arith, f.long, length-set c.loop-rest.digits c.loop-rest.i (48 + c.loop-rest.rest))
 
-put-bytes-requires : tie.Need-put-bytes-requires invariant-loop decreases-loop
+put-bytes-requires : tie.Need-put_bytes-requires invariant-loop-rest decreases-loop-rest
 put-bytes-requires c κs = tt
 
-same_length : tie.Need-same-length invariant-loop decreases-loop
+same_length : tie.Need-shape_of-buffer invariant-loop-rest decreases-loop-rest
 same_length c = search rules
 
-returns : tie.Need-returns invariant-loop decreases-loop
+returns : tie.Need-returns invariant-loop-rest decreases-loop-rest
 returns c =
-    let p = c.before.before in
-    let l = p.before.before.before.before.before in
-    let a = l.before.before.args in
-    let f = l.loop.invariant in
-    let full = set l.loop.digits l.loop.i (48 + l.loop.rest) in
-    let size = length-drop (l.loop.i - 1) full in
-    subst (λ (piece : List ℕ). Laid p.put-bytes.new.0 p.put-bytes.result (put a.buffer.now a.at piece))
-    (take_all (11 - (l.loop.i - 1)) (drop (l.loop.i - 1) full) (omega (arith, f.long, length-set l.loop.digits l.loop.i (48 + l.loop.rest))) ∙ end f (omega arith)) p.put-bytes.ensures
+    let l = c.loop-rest in
+    let a = c.args in
+    let f = l.invariant in
+    let full = set l.digits l.i (48 + l.rest) in
+    let size = length-drop (l.i - 1) full in
+    subst (λ (piece : List ℕ). Laid c.put_bytes.new.buffer c.put_bytes.result (put a.buffer.now a.at piece))
+    (take_all (11 - (l.i - 1)) (drop (l.i - 1) full) (omega (arith, f.long, length-set l.digits l.i (48 + l.rest))) ∙ end f (omega arith)) c.put_bytes.ensures
 
-pub put-number-spec : {M : Type 1} → statement M
-put-number-spec =
+pub put_number_spec : {M : Type 1} → statement M
+put_number_spec =
     tie.close
     (tie.spec
-    invariant-loop
-    decreases-loop
+    invariant-loop-rest
+    decreases-loop-rest
     loop-holds
     add-digits
     cast-digits

@@ -6,29 +6,29 @@ use Rattle.outcome.specs.Outcome.{fault_of}
 use Rattle.outcome.proofs.cue_refused.Statement.{statement}
 use Rattle.outcome.proofs.cue_refused.Tie as tie
 
-returns : tie.Need-returns
+returns : tie.Need-returns-then-not-there
 unfolding fault_of first_met
-returns c = rw c.if1.true
+returns c = rw c.if-not-there.true-raw
 
-returns-2 : tie.Need-returns-2
+returns-2 : tie.Need-returns-then-before-eq0
 unfolding fault_of first_met
 returns-2 c =
     let e = c.before in
-    rw (e.if1.false, eq-eqb e.before.args.before 0 c.if2.true)
+    rw (e.if-not-there.false-raw, eq-eqb e.args.before 0 c.if-before-eq0.true)
 
-returns-3 : tie.Need-returns-3
+returns-3 : tie.Need-returns-then-place-last
 unfolding fault_of first_met
 returns-3 c =
     let e = c.before in
-    let a = e.before.before.args in
-    rw (e.before.if1.false, ne_eqb a.before 0 e.if2.false, le-ltb a.last a.place (omega (arith, c.if3.true)))
+    let a = e.args in
+    rw (e.if-not-there.false-raw, ne_eqb a.before 0 e.if-before-eq0.false, le-ltb a.last a.place (omega (arith, c.if-place-last.true)))
 
-returns-4 : tie.Need-returns-4
+returns-4 : tie.Need-returns
 unfolding fault_of first_met
 returns-4 c =
     let e = c.before in
-    let a = e.before.before.args in
-    rw (e.before.if1.false, ne_eqb a.before 0 e.if2.false, lt-ltb a.last a.place (omega (arith, c.if3.false)))
+    let a = e.args in
+    rw (e.if-not-there.false-raw, ne_eqb a.before 0 e.if-before-eq0.false, lt-ltb a.last a.place (omega (arith, c.if-place-last.false)))
 
-pub cue-refused-spec : {M : Type 1} → statement M
-cue-refused-spec = tie.close (tie.spec returns returns-2 returns-3 returns-4)
+pub cue_refused_spec : {M : Type 1} → statement M
+cue_refused_spec = tie.close (tie.spec returns returns-2 returns-3 returns-4)

@@ -5,11 +5,11 @@ use borrow.Author.Tests.{le-leb, lt-leb}
 use Rattle.outcome.proofs.group_fits.Statement.{statement}
 use Rattle.outcome.proofs.group_fits.Tie as tie
 
-returns : tie.Need-returns
-returns c = rw (le-leb c.before.args.count 64 (omega (arith, c.if1.true))) refl
+returns : tie.Need-returns-then-count-le64
+returns c = rw (le-leb c.args.count 64 (omega (arith, c.if-count-le64.true))) refl
 
-returns-2 : tie.Need-returns-2
-returns-2 c = rw (lt-leb c.before.args.count 64 (omega (arith, c.if1.false))) refl
+returns-2 : tie.Need-returns-else-count-le64
+returns-2 c = rw (lt-leb c.args.count 64 (omega (arith, c.if-count-le64.false))) refl
 
-pub group-fits-spec : {M : Type 1} → statement M
-group-fits-spec = tie.close (tie.spec returns returns-2)
+pub group_fits_spec : {M : Type 1} → statement M
+group_fits_spec = tie.close (tie.spec returns returns-2)
