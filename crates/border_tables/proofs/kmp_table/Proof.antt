@@ -69,137 +69,137 @@ end P t t' q j h l m =
     ∙ ap (λ (x : List ℕ). tabulate (length P + 1) (kmp_entry P) ++ x) (drop-set-lt (length P + 1) t 0 0 (omega arith))
     ∙ sym (made_by (length P) (length P + 1) (kmp_entry P) t room l)
 
-abbrev invariant-loop2 : tie.invariant-loop2
-invariant-loop2 pattern table m q j₀ c j = (j ≤ j₀) × Chain pattern q j
+abbrev invariant-loop-j : tie.invariant-loop-j
+invariant-loop-j pattern table m q j₀ c j = (j ≤ j₀) × Chain pattern q j
 
-abbrev decreases-loop2 : tie.decreases-loop2
-decreases-loop2 pattern table m q j₀ c j = 2 * (m - q) + j
+abbrev decreases-loop-j : tie.decreases-loop-j
+decreases-loop-j pattern table m q j₀ c j = 2 * (m - q) + j
 
-abbrev invariant-loop : tie.invariant-loop
-invariant-loop pattern table₀ m q₀ j₀ table q j = Made pattern table₀ table q j
+abbrev invariant-loop-q : tie.invariant-loop-q
+invariant-loop-q pattern table₀ m q₀ j₀ table q j = Made pattern table₀ table q j
 
-abbrev decreases-loop : tie.decreases-loop
-decreases-loop pattern table₀ m q₀ j₀ table q j = 2 * (m - q) + j
+abbrev decreases-loop-q : tie.decreases-loop-q
+decreases-loop-q pattern table₀ m q₀ j₀ table q j = 2 * (m - q) + j
 
 -- the loop, from the inner loop; the pattern, from the loop
-abbrev outer : tie.At-loop2 invariant-loop2 decreases-loop2 invariant-loop decreases-loop → tie.At-loop invariant-loop2 decreases-loop2 invariant-loop decreases-loop
+abbrev outer : tie.At-loop-j invariant-loop-j decreases-loop-j invariant-loop-q decreases-loop-q → tie.At-loop-q invariant-loop-j decreases-loop-j invariant-loop-q decreases-loop-q
 outer i = i.before.before.before
 
-abbrev P : tie.At-loop invariant-loop2 decreases-loop2 invariant-loop decreases-loop → List ℕ
-P l = l.before.before.before.args.pattern.now
+abbrev P : tie.At-loop-q invariant-loop-j decreases-loop-j invariant-loop-q decreases-loop-q → List ℕ
+P l = l.args.pattern.now
 
 -- where the inner loop is left: at 0, or at a border with letter q + 1 after it
-ended : (c : tie.Left-loop2 invariant-loop2 decreases-loop2 invariant-loop decreases-loop) → let i = c.before in let l = outer i in Longest (P l) (suc l.loop.q) (suc i.loop2.j)
-ended c = chain-ends _ _ _ c.before.loop2.invariant.1 (⊎_elim (λ x h. absurd (omega arith)) (λ x _. x.2.taken) c.loop2-test.branch)
+ended : (c : tie.Left-loop-j invariant-loop-j decreases-loop-j invariant-loop-q decreases-loop-q) → let i = c.before in let l = outer i in Longest (P l) (suc l.loop-q.q) (suc i.loop-j.j)
+ended c = chain-ends _ _ _ c.loop-j.invariant.1 (⊎_elim (λ x h. absurd (omega arith)) (λ x _. x.if-pattern-j.true) c.loop-j-test.branch-raw)
 
-returns : tie.Need-returns invariant-loop2 decreases-loop2 invariant-loop decreases-loop
-returns c = let a = c.before.args in made-short-by (length a.pattern.now) (length a.pattern.now + 1) (kmp_entry a.pattern.now) a.table.now (omega arith)
+returns : tie.Need-returns-then-table-m invariant-loop-j decreases-loop-j invariant-loop-q decreases-loop-q
+returns c = let a = c.args in made-short-by (length a.pattern.now) (length a.pattern.now + 1) (kmp_entry a.pattern.now) a.table.now (omega arith)
 
-returns-2 : tie.Need-returns-2 invariant-loop2 decreases-loop2 invariant-loop decreases-loop
-returns-2 c = let a = c.before.before.args in made-long-by (length a.pattern.now) (length a.pattern.now + 1) (kmp_entry a.pattern.now) a.table.now (omega arith) (omega arith)
+returns-2 : tie.Need-returns-then-m-gt65535 invariant-loop-j decreases-loop-j invariant-loop-q decreases-loop-q
+returns-2 c = let a = c.args in made-long-by (length a.pattern.now) (length a.pattern.now + 1) (kmp_entry a.pattern.now) a.table.now (omega arith) (omega arith)
 
-slice-write-table : tie.Need-slice-write-table invariant-loop2 decreases-loop2 invariant-loop decreases-loop
+slice-write-table : tie.Need-bounds-table-0 invariant-loop-j decreases-loop-j invariant-loop-q decreases-loop-q
 slice-write-table c = omega arith
 
-loop-holds : tie.Need-loop-init invariant-loop2 decreases-loop2 invariant-loop decreases-loop
-loop-holds c = let a = c.before.before.args in start a.pattern.now a.table.now (omega arith)
+loop-holds : tie.Need-loop-q-init invariant-loop-j decreases-loop-j invariant-loop-q decreases-loop-q
+loop-holds c = let a = c.args in start a.pattern.now a.table.now (omega arith)
 
-shared-slice-read-c : tie.Need-shared-slice-read-c invariant-loop2 decreases-loop2 invariant-loop decreases-loop
+shared-slice-read-c : tie.Need-bounds-pattern-q invariant-loop-j decreases-loop-j invariant-loop-q decreases-loop-q
 shared-slice-read-c c = omega arith
 
-loop2-holds : tie.Need-loop2-init invariant-loop2 decreases-loop2 invariant-loop decreases-loop
-loop2-holds c = (omega arith, c.before.before.loop.invariant.chain)
+loop2-holds : tie.Need-loop-j-init invariant-loop-j decreases-loop-j invariant-loop-q decreases-loop-q
+loop2-holds c = (omega arith, c.loop-q.invariant.chain)
 
-sub-if3 : tie.Need-overflow-sub-if3 invariant-loop2 decreases-loop2 invariant-loop decreases-loop
+sub-if3 : tie.Need-overflow_sub-j invariant-loop-j decreases-loop-j invariant-loop-q decreases-loop-q
 sub-if3 c = omega arith
 
-shared-slice-read-if3 : tie.Need-shared-slice-read-if3 invariant-loop2 decreases-loop2 invariant-loop decreases-loop
-shared-slice-read-if3 c = omega (arith, c.before.before.loop2.invariant.1.low)
+shared-slice-read-if3 : tie.Need-bounds-pattern-j invariant-loop-j decreases-loop-j invariant-loop-q decreases-loop-q
+shared-slice-read-if3 c = omega (arith, c.loop-j.invariant.1.low)
 
-sub-j : tie.Need-overflow-sub-j invariant-loop2 decreases-loop2 invariant-loop decreases-loop
+sub-j : tie.Need-overflow_sub-j-in-loop-j invariant-loop-j decreases-loop-j invariant-loop-q decreases-loop-q
 sub-j c = omega arith
 
-mul-j : tie.Need-overflow-mul-j invariant-loop2 decreases-loop2 invariant-loop decreases-loop
-mul-j c = omega (arith, c.before.before.before.loop2.invariant.1.low)
+mul-j : tie.Need-offset_bounds-table-j invariant-loop-j decreases-loop-j invariant-loop-q decreases-loop-q
+mul-j c = omega (arith, c.loop-j.invariant.1.low)
 
-slice-read-j : tie.Need-slice-read-j invariant-loop2 decreases-loop2 invariant-loop decreases-loop
-slice-read-j c = let i = c.before.before.before.before in let m = (outer i).loop.invariant in omega (arith, i.loop2.invariant.1.low, m.ruled.long, m.fits, m.low)
+slice-read-j : tie.Need-bounds-table-j invariant-loop-j decreases-loop-j invariant-loop-q decreases-loop-q
+slice-read-j c = let i = c.before.before.before.before in let m = (outer i).loop-q.invariant in omega (arith, i.loop-j.invariant.1.low, m.ruled.long, m.fits, m.low)
 
-cast-j : tie.Need-overflow-cast-j invariant-loop2 decreases-loop2 invariant-loop decreases-loop
-cast-j c = omega (arith, c.slice-known.given (c.before.before.before.before.loop2.j - 1))
+cast-j : tie.Need-overflow_cast-j invariant-loop-j decreases-loop-j invariant-loop-q decreases-loop-q
+cast-j c = omega (arith, c.slice_known-1.given (c.loop-j.j - 1))
 
-loop2-less : tie.Need-loop2-smaller invariant-loop2 decreases-loop2 invariant-loop decreases-loop
-loop2-less c = let i = c.before.before.before.before in omega (arith, follow-less (outer i).loop.invariant (omega arith) i.loop2.invariant.1)
+loop2-less : tie.Need-loop-j-smaller invariant-loop-j decreases-loop-j invariant-loop-q decreases-loop-q
+loop2-less c = let i = c.before.before.before.before in omega (arith, follow-less (outer i).loop-q.invariant (omega arith) i.loop-j.invariant.1)
 
-loop2-again : tie.Need-loop2-preserved invariant-loop2 decreases-loop2 invariant-loop decreases-loop
+loop2-again : tie.Need-loop-j-preserved invariant-loop-j decreases-loop-j invariant-loop-q decreases-loop-q
 loop2-again c =
     let i = c.before.before.before.before in
-    let m = (outer i).loop.invariant in
-    let k = i.loop2.invariant.1 in
-    (omega (arith, follow-less m (omega arith) k), follow m (omega arith) k (omega arith) c.before.if3.false)
+    let m = (outer i).loop-q.invariant in
+    let k = i.loop-j.invariant.1 in
+    (omega (arith, follow-less m (omega arith) k), follow m (omega arith) k (omega arith) c.if-pattern-j.false)
 
-add-q : tie.Need-overflow-add-q invariant-loop2 decreases-loop2 invariant-loop decreases-loop
+add-q : tie.Need-overflow_add-q invariant-loop-j decreases-loop-j invariant-loop-q decreases-loop-q
 add-q c = omega arith
 
-add-j : tie.Need-overflow-add-j invariant-loop2 decreases-loop2 invariant-loop decreases-loop
+add-j : tie.Need-overflow_add-j invariant-loop-j decreases-loop-j invariant-loop-q decreases-loop-q
 add-j c = omega arith
 
-cast-entry : tie.Need-overflow-cast-entry invariant-loop2 decreases-loop2 invariant-loop decreases-loop
+cast-entry : tie.Need-overflow_cast-entry invariant-loop-j decreases-loop-j invariant-loop-q decreases-loop-q
 cast-entry c = omega arith
 
-shared-slice-read-if5 : tie.Need-shared-slice-read-if5 invariant-loop2 decreases-loop2 invariant-loop decreases-loop
+shared-slice-read-if5 : tie.Need-bounds-pattern-q-then-q-m invariant-loop-j decreases-loop-j invariant-loop-q decreases-loop-q
 shared-slice-read-if5 c = omega arith
 
-sub-if5 : tie.Need-overflow-sub-if5 invariant-loop2 decreases-loop2 invariant-loop decreases-loop
+sub-if5 : tie.Need-overflow_sub-j-then-q-m invariant-loop-j decreases-loop-j invariant-loop-q decreases-loop-q
 sub-if5 c = omega arith
 
-shared-slice-read-if5-2 : tie.Need-shared-slice-read-if5-2 invariant-loop2 decreases-loop2 invariant-loop decreases-loop
+shared-slice-read-if5-2 : tie.Need-bounds-pattern-j-then-q-m invariant-loop-j decreases-loop-j invariant-loop-q decreases-loop-q
 shared-slice-read-if5-2 c = omega arith
 
-sub-entry : tie.Need-overflow-sub-entry invariant-loop2 decreases-loop2 invariant-loop decreases-loop
+sub-entry : tie.Need-overflow_sub-entry invariant-loop-j decreases-loop-j invariant-loop-q decreases-loop-q
 sub-entry c = omega arith
 
-mul-entry : tie.Need-overflow-mul-entry invariant-loop2 decreases-loop2 invariant-loop decreases-loop
+mul-entry : tie.Need-offset_bounds-table-j-then-pattern-q invariant-loop-j decreases-loop-j invariant-loop-q decreases-loop-q
 mul-entry c = omega arith
 
-slice-read-entry : tie.Need-slice-read-entry invariant-loop2 decreases-loop2 invariant-loop decreases-loop
-slice-read-entry c = let i = c.before.before.before.before.before.before in let m = (outer i).loop.invariant in omega (arith, m.ruled.long, m.fits)
+slice-read-entry : tie.Need-bounds-table-j-then-pattern-q invariant-loop-j decreases-loop-j invariant-loop-q decreases-loop-q
+slice-read-entry c = let i = c.before.before.before.before.before.before in let m = (outer i).loop-q.invariant in omega (arith, m.ruled.long, m.fits)
 
-mul-table : tie.Need-overflow-mul-table invariant-loop2 decreases-loop2 invariant-loop decreases-loop
+mul-table : tie.Need-offset_bounds-table-q invariant-loop-j decreases-loop-j invariant-loop-q decreases-loop-q
 mul-table c = omega arith
 
-slice-write-table-2 : tie.Need-slice-write-table-2 invariant-loop2 decreases-loop2 invariant-loop decreases-loop
-slice-write-table-2 c = let m = c.before.before.before.before.before.loop.invariant in omega (arith, m.ruled.long, m.fits)
+slice-write-table-2 : tie.Need-bounds-table-q invariant-loop-j decreases-loop-j invariant-loop-q decreases-loop-q
+slice-write-table-2 c = let m = c.loop-q.invariant in omega (arith, m.ruled.long, m.fits)
 
-loop-less : tie.Need-loop-smaller invariant-loop2 decreases-loop2 invariant-loop decreases-loop
+loop-less : tie.Need-loop-q-smaller invariant-loop-j decreases-loop-j invariant-loop-q decreases-loop-q
 loop-less c = omega arith
 
-loop-again : tie.Need-loop-preserved invariant-loop2 decreases-loop2 invariant-loop decreases-loop
+loop-again : tie.Need-loop-q-preserved invariant-loop-j decreases-loop-j invariant-loop-q decreases-loop-q
 loop-again c =
     let o = c.before.before.before.before.before in
-    let m = o.loop.invariant in
-    let e = c.if4.entry in
-    let h : o.loop.q < length (P o) = omega arith in
+    let m = o.loop-q.invariant in
+    let e = c.if-q-m.entry in
+    let h : o.loop-q.q < length (P o) = omega arith in
     let w = ended c.before in
     stored e m h w
-    (⊎_elim (λ x. value_same e m h w (omega arith) x.3.taken x.5)
-    (⊎_elim (λ x. value-longest e m h w (λ _. x.3.left) x.4) (λ x. value-longest e m h w (λ y. absurd (omega arith)) x.1))
-    c.if4.branch)
+    (⊎_elim (λ x. value_same e m h w (omega arith) x.if-pattern-q.true x.entry-is)
+    (⊎_elim (λ x. value-longest e m h w (λ _. x.if-pattern-q.false) x.entry-is) (λ x. value-longest e m h w (λ y. absurd (omega arith)) x.entry-is))
+    c.if-q-m.branch-raw)
 
-same_length : tie.Need-same-length invariant-loop2 decreases-loop2 invariant-loop decreases-loop
-same_length c = c.before.loop.invariant.ruled.long ∙ simp length-set
+same_length : tie.Need-shape_of-table invariant-loop-j decreases-loop-j invariant-loop-q decreases-loop-q
+same_length c = c.loop-q.invariant.ruled.long ∙ simp length-set
 
-returns-3 : tie.Need-returns-3 invariant-loop2 decreases-loop2 invariant-loop decreases-loop
-returns-3 c = end _ c.before.before.before.before.args.table.now _ _ _ c.loop-test.false (omega arith) c.before.loop.invariant
+returns-3 : tie.Need-returns invariant-loop-j decreases-loop-j invariant-loop-q decreases-loop-q
+returns-3 c = end _ c.args.table.now _ _ _ c.loop-q-test.false (omega arith) c.loop-q.invariant
 
-pub kmp-table-spec : {M : Type 1} → statement M
-kmp-table-spec =
+pub kmp_table_spec : {M : Type 1} → statement M
+kmp_table_spec =
     tie.close
     (tie.spec
-    invariant-loop2
-    decreases-loop2
-    invariant-loop
-    decreases-loop
+    invariant-loop-j
+    decreases-loop-j
+    invariant-loop-q
+    decreases-loop-q
     returns
     returns-2
     slice-write-table

@@ -28,11 +28,11 @@ record Made (P t₀ t : List ℕ) (q : ℕ) : Type 0 where
   room : (length P + 1) + (length P + 1) ≤ length t₀
   ruled : Ruled (length P + 1 + q) (rule P) t₀ t
 
-abbrev invariant-loop : tie.invariant-loop
-invariant-loop pattern table₀ m widest md q₀ table q = Made pattern table₀ table q
+abbrev invariant-loop-q : tie.invariant-loop-q
+invariant-loop-q pattern table₀ m widest md q₀ table q = Made pattern table₀ table q
 
-abbrev decreases-loop : tie.decreases-loop
-decreases-loop pattern table₀ m widest md q₀ table q = m + 1 - q
+abbrev decreases-loop-q : tie.decreases-loop-q
+decreases-loop-q pattern table₀ m widest md q₀ table q = m + 1 - q
 
 -- the KMP entries are made, and no shift yet
 module _ (P table : List ℕ) {t : List ℕ} (room : (length P + 1) + (length P + 1) ≤ length table) (small : length P ≤ 65535) (e : t ≡ kmp_made P table) where
@@ -94,135 +94,135 @@ end P table {t₀} {t} {q} room small r done m =
     ∙ sym (made-is (length P) (border_tables P) table (omega arith) small)
 
 -- the gap, from where the table has room, and that place, from the loop; the call, from the gap
-abbrev roomy : tie.At-loop invariant-loop decreases-loop → tie.Else2 invariant-loop decreases-loop
+abbrev roomy : tie.At-loop-q invariant-loop-q decreases-loop-q → tie.Else-table-m invariant-loop-q decreases-loop-q
 roomy l = l.before.before.before.before.before.before
 
-abbrev found : tie.Else2 invariant-loop decreases-loop → tie.After-widest-gap invariant-loop decreases-loop
+abbrev found : tie.Else-table-m invariant-loop-q decreases-loop-q → tie.After-widest_gap-widest invariant-loop-q decreases-loop-q
 found e = e.before.before
 
-abbrev start : tie.After-widest-gap invariant-loop decreases-loop → tie.Start invariant-loop decreases-loop
+abbrev start : tie.After-widest_gap-widest invariant-loop-q decreases-loop-q → tie.Start invariant-loop-q decreases-loop-q
 start g = g.before.before.before
 
-abbrev P : tie.At-loop invariant-loop decreases-loop → List ℕ
+abbrev P : tie.At-loop-q invariant-loop-q decreases-loop-q → List ℕ
 P l = (start (found (roomy l))).args.pattern.now
 
 -- the limits that hold where the loop is reached
-limits : (e : tie.Else2 invariant-loop decreases-loop) → let a = (start (found e)).args in let m = length a.pattern.now in (m ≤ 65535) × ((m + 1) + (m + 1) ≤ length a.table.now)
-limits e = (omega (arith, e.before.if1.false), omega (arith, e.if2.false))
+limits : (e : tie.Else-table-m invariant-loop-q decreases-loop-q) → let a = (start (found e)).args in let m = length a.pattern.now in (m ≤ 65535) × ((m + 1) + (m + 1) ≤ length a.table.now)
+limits e = (omega (arith, e.if-m-gt65535.false), omega (arith, e.if-table-m.false))
 
 -- the KMP entries, where the loop begins
-made : (k : tie.After-kmp-table invariant-loop decreases-loop) → let a = (start (found k.before.before)).args in Ruled (length a.pattern.now + 1) (kmp_entry a.pattern.now) a.table.now k.kmp-table.new.1.0
+made : (k : tie.After-kmp_table invariant-loop-q decreases-loop-q) → let a = (start (found k.before.before)).args in Ruled (length a.pattern.now + 1) (kmp_entry a.pattern.now) a.table.now k.kmp_table.new.table
 made k =
     let e = k.before.before in
     let a = (start (found e)).args in
-    first a.pattern.now a.table.now (limits e).1 (limits e).0 k.kmp-table.ensures
+    first a.pattern.now a.table.now (limits e).1 (limits e).0 k.kmp_table.ensures
 
 -- md, as the gap was found
-width : (e : tie.Else2 invariant-loop decreases-loop) → let P = (start (found e)).args.pattern.now in (found e).widest-gap.result.width ≡ md P
+width : (e : tie.Else-table-m invariant-loop-q decreases-loop-q) → let P = (start (found e)).args.pattern.now in (found e).widest_gap-widest.result.width ≡ md P
 width e =
     let P = (start (found e)).args.pattern.now in
-    ap (λ (g : Gap). g.width) ((found e).widest-gap.ensures ∙ found-widest P (limits e).0)
+    ap (λ (g : Gap). g.width) ((found e).widest_gap-widest.ensures ∙ found-widest P (limits e).0)
 
 -- the shift that a turn writes is its rule's
-value : (j : tie.Joined3 invariant-loop decreases-loop) → let l = j.before.before.before in j.if3.shift ≡ max_shift (P l) l.loop.q
+value : (j : tie.Joined-shift-md invariant-loop-q decreases-loop-q) → let l = j.before.before.before in j.if-shift-md.shift ≡ max_shift (P l) l.loop-q.q
 value j =
     let l = j.before.before.before in
-    let m = l.loop.invariant in
-    let h : l.loop.q ≤ length (P l) = j.before.before.loop-test.true in
+    let m = l.loop-q.invariant in
+    let h : l.loop-q.q ≤ length (P l) = j.loop-q-test.true in
     let is = width (roomy l) in
-    ⊎_elim (λ w. wide m h is (omega (arith, w.0.taken)) (omega (arith, w.1.taken)) w.2)
-    (⊎_elim (λ w. deep m h is w.0.taken w.1.left w.2) (λ w. far m h is w.0.left w.1))
-    j.if3.branch
+    ⊎_elim (λ w. wide m h is (omega (arith, w.if-shift-md.true)) (omega (arith, w.if-equal-md.true)) w.shift-is)
+    (⊎_elim (λ w. deep m h is w.if-shift-md.true w.if-equal-md.false w.shift-is) (λ w. far m h is w.if-shift-md.false w.shift-is))
+    j.if-shift-md.branch-raw
 
-widest-gap-requires : tie.Need-widest-gap-requires invariant-loop decreases-loop
+widest-gap-requires : tie.Need-widest_gap-widest-requires invariant-loop-q decreases-loop-q
 widest-gap-requires c κs = tt
 
-returns : tie.Need-returns invariant-loop decreases-loop
-returns c = let a = (start c.before).args in (c.before.widest-gap.ensures, max-long a.pattern.now a.table.now c.if1.true)
+returns : tie.Need-returns-then-m-gt65535 invariant-loop-q decreases-loop-q
+returns c = let a = (start c.before).args in (c.widest_gap-widest.ensures, max-long a.pattern.now a.table.now c.if-m-gt65535.true)
 
-add-if2 : tie.Need-overflow-add-if2 invariant-loop decreases-loop
+add-if2 : tie.Need-overflow_add-m invariant-loop-q decreases-loop-q
 add-if2 c = omega arith
 
-add-if2-2 : tie.Need-overflow-add-if2-2 invariant-loop decreases-loop
+add-if2-2 : tie.Need-overflow_add-m-2 invariant-loop-q decreases-loop-q
 add-if2-2 c = omega arith
 
-add-if2-3 : tie.Need-overflow-add-if2-3 invariant-loop decreases-loop
+add-if2-3 : tie.Need-overflow_add-m-3 invariant-loop-q decreases-loop-q
 add-if2-3 c = omega arith
 
-returns-2 : tie.Need-returns-2 invariant-loop decreases-loop
-returns-2 c = let a = (start c.before.before).args in (c.before.before.widest-gap.ensures, max-short a.pattern.now a.table.now c.if2.true)
+returns-2 : tie.Need-returns-then-table-m invariant-loop-q decreases-loop-q
+returns-2 c = let a = (start c.before.before).args in (c.widest_gap-widest.ensures, max-short a.pattern.now a.table.now c.if-table-m.true)
 
-kmp-table-requires : tie.Need-kmp-table-requires invariant-loop decreases-loop
+kmp-table-requires : tie.Need-kmp_table-requires invariant-loop-q decreases-loop-q
 kmp-table-requires c κs = tt
 
-cast-md : tie.Need-overflow-cast-md invariant-loop decreases-loop
+cast-md : tie.Need-overflow_cast-md invariant-loop-q decreases-loop-q
 cast-md c =
     let e = c.before.before.before.before.before in
     let P = (start (found e)).args.pattern.now in
     omega (arith, width e, widest-le P (length P), limits e)
 
-loop-holds : tie.Need-loop-init invariant-loop decreases-loop
+loop-holds : tie.Need-loop-q-init invariant-loop-q decreases-loop-q
 loop-holds c =
     let k = c.before.before.before in
     let e = k.before.before in
     let a = (start (found e)).args in
-    begin a.pattern.now a.table.now (limits e).1 (limits e).0 k.kmp-table.ensures
+    begin a.pattern.now a.table.now (limits e).1 (limits e).0 k.kmp_table.ensures
 
-cast-equal : tie.Need-overflow-cast-equal invariant-loop decreases-loop
+cast-equal : tie.Need-overflow_cast-equal invariant-loop-q decreases-loop-q
 cast-equal c = omega (arith, limits (roomy c.before))
 
-mul-shift : tie.Need-overflow-mul-shift invariant-loop decreases-loop
+mul-shift : tie.Need-offset_bounds-table-q invariant-loop-q decreases-loop-q
 mul-shift c = omega (arith, limits (roomy c.before))
 
-slice-read-shift : tie.Need-slice-read-shift invariant-loop decreases-loop
-slice-read-shift c = let m = c.before.before.loop.invariant in omega (arith, m.ruled.room)
+slice-read-shift : tie.Need-bounds-table-q invariant-loop-q decreases-loop-q
+slice-read-shift c = let m = c.loop-q.invariant in omega (arith, m.ruled.room)
 
-sub-shift : tie.Need-overflow-sub-shift invariant-loop decreases-loop
-sub-shift c = let l = c.before.before in omega (arith, entry-le l.loop.invariant c.before.loop-test.true)
+sub-shift : tie.Need-overflow_sub-shift invariant-loop-q decreases-loop-q
+sub-shift c = let l = c.before.before in omega (arith, entry-le l.loop-q.invariant c.loop-q-test.true)
 
-add-shift : tie.Need-overflow-add-shift invariant-loop decreases-loop
+add-shift : tie.Need-overflow_add-shift invariant-loop-q decreases-loop-q
 add-shift c =
     let l = c.before.before in
-    let h = c.before.loop-test.true in
-    omega (arith, by-entry l.loop.invariant h, kmp_shift-le (P l) l.loop.q h, limits (roomy l))
+    let h = c.loop-q-test.true in
+    omega (arith, by-entry l.loop-q.invariant h, kmp_shift-le (P l) l.loop-q.q h, limits (roomy l))
 
-add-table : tie.Need-overflow-add-table invariant-loop decreases-loop
+add-table : tie.Need-overflow_add-table invariant-loop-q decreases-loop-q
 add-table c = omega arith
 
-add-table-2 : tie.Need-overflow-add-table-2 invariant-loop decreases-loop
+add-table-2 : tie.Need-overflow_add-table-in-loop-q invariant-loop-q decreases-loop-q
 add-table-2 c = omega (arith, limits (roomy c.before.before.before))
 
-mul-table : tie.Need-overflow-mul-table invariant-loop decreases-loop
+mul-table : tie.Need-offset_bounds-table-m invariant-loop-q decreases-loop-q
 mul-table c = omega (arith, limits (roomy c.before.before.before))
 
-slice-write-table : tie.Need-slice-write-table invariant-loop decreases-loop
-slice-write-table c = let m = c.before.before.before.loop.invariant in omega (arith, m.room, m.ruled.long)
+slice-write-table : tie.Need-bounds-table-m invariant-loop-q decreases-loop-q
+slice-write-table c = let m = c.loop-q.invariant in omega (arith, m.room, m.ruled.long)
 
-add-q : tie.Need-overflow-add-q invariant-loop decreases-loop
+add-q : tie.Need-overflow_add-q invariant-loop-q decreases-loop-q
 add-q c = omega (arith, limits (roomy c.before.before.before))
 
-loop-less : tie.Need-loop-smaller invariant-loop decreases-loop
+loop-less : tie.Need-loop-q-smaller invariant-loop-q decreases-loop-q
 loop-less c = omega arith
 
-loop-again : tie.Need-loop-preserved invariant-loop decreases-loop
-loop-again c = let i = c.before.before in stored i.before.loop.invariant i.loop-test.true (value c)
+loop-again : tie.Need-loop-q-preserved invariant-loop-q decreases-loop-q
+loop-again c = let i = c.before.before in stored i.loop-q.invariant i.loop-q-test.true (value c)
 
-same_length : tie.Need-same-length invariant-loop decreases-loop
-same_length c = let l = c.before in l.loop.invariant.ruled.long ∙ (made l.before.before.before.before).long
+same_length : tie.Need-shape_of-table invariant-loop-q decreases-loop-q
+same_length c = let l = c.before in l.loop-q.invariant.ruled.long ∙ (made l.before.before.before.before).long
 
-returns-3 : tie.Need-returns-3 invariant-loop decreases-loop
+returns-3 : tie.Need-returns invariant-loop-q decreases-loop-q
 returns-3 c =
     let l = c.before in
     let e = roomy l in
     let a = (start (found e)).args in
-    ((found e).widest-gap.ensures, end a.pattern.now a.table.now (limits e).1 (limits e).0 (made l.before.before.before.before) c.loop-test.false l.loop.invariant)
+    ((found e).widest_gap-widest.ensures, end a.pattern.now a.table.now (limits e).1 (limits e).0 (made l.before.before.before.before) c.loop-q-test.false l.loop-q.invariant)
 
-pub max-shift-table-spec : {M : Type 1} → statement M
-max-shift-table-spec =
+pub max_shift_table_spec : {M : Type 1} → statement M
+max_shift_table_spec =
     tie.close
     (tie.spec
-    invariant-loop
-    decreases-loop
+    invariant-loop-q
+    decreases-loop-q
     widest-gap-requires
     returns
     add-if2

@@ -10,76 +10,76 @@ use Rattle.suffix_tables.proofs.Passes.{settled-none, Front, front-start, front-
 use Rattle.suffix_tables.proofs.prefix_entries.Statement.{statement}
 use Rattle.suffix_tables.proofs.prefix_entries.Tie as tie
 
-abbrev invariant-loop : tie.invariant-loop
-invariant-loop pattern borders table₀ m k₀ q₀ table k q = Front pattern q k × Settled pattern q 0 table₀ table
+abbrev invariant-loop-q : tie.invariant-loop-q
+invariant-loop-q pattern borders table₀ m k₀ q₀ table k q = Front pattern q k × Settled pattern q 0 table₀ table
 
-abbrev decreases-loop : tie.decreases-loop
-decreases-loop pattern borders table₀ m k₀ q₀ table k q = m - q
+abbrev decreases-loop-q : tie.decreases-loop-q
+decreases-loop-q pattern borders table₀ m k₀ q₀ table k q = m - q
 
 -- past q, whether k moved on or not
-front : (j : tie.Joined1 invariant-loop decreases-loop) → let l = j.before.before in Front l.before.args.pattern.now (suc l.loop.q) j.if1.k
+front : (j : tie.Joined-k-q invariant-loop-q decreases-loop-q) → let l = j.before.before in Front l.args.pattern.now (suc l.loop-q.q) j.if-k-q.k
 front j =
     let l = j.before.before in
-    let f = l.loop.invariant.0 in
+    let f = l.loop-q.invariant.0 in
     ⊎_elim
-    (λ w. rw w.2 (front-on (omega arith) (omega arith) f (suffix-reads _ l.loop.k l.before.requires.0 f.most)))
-    (λ w. rw w.1 (front-keep (omega arith) f))
-    j.if1.branch
+    (λ w. rw w.k-is (front-on (omega arith) (omega arith) f (suffix-reads _ l.loop-q.k l.requires.0 f.most)))
+    (λ w. rw w.k-is (front-keep (omega arith) f))
+    j.if-k-q.branch-raw
 
-loop-holds : tie.Need-loop-init invariant-loop decreases-loop
+loop-holds : tie.Need-loop-q-init invariant-loop-q decreases-loop-q
 loop-holds c = (front-start _, settled-none c.requires.1.0)
 
-mul-k : tie.Need-overflow-mul-k invariant-loop decreases-loop
+mul-k : tie.Need-offset_bounds-borders-k invariant-loop-q decreases-loop-q
 mul-k c = omega arith
 
-shared-slice-read-k : tie.Need-shared-slice-read-k invariant-loop decreases-loop
+shared-slice-read-k : tie.Need-bounds-borders-k invariant-loop-q decreases-loop-q
 shared-slice-read-k c = omega arith
 
-cast-k : tie.Need-overflow-cast-k invariant-loop decreases-loop
-cast-k c = omega (arith, c.shared-slice-known.given c.before.before.before.loop.k)
+cast-k : tie.Need-overflow_cast-k invariant-loop-q decreases-loop-q
+cast-k c = omega (arith, c.shared_slice_known-1.given c.loop-q.k)
 
-add-table : tie.Need-overflow-add-table invariant-loop decreases-loop
+add-table : tie.Need-overflow_add-table invariant-loop-q decreases-loop-q
 add-table c = omega (arith, (front c.before).most)
 
-sub-table : tie.Need-overflow-sub-table invariant-loop decreases-loop
+sub-table : tie.Need-overflow_sub-table invariant-loop-q decreases-loop-q
 sub-table c = omega arith
 
-sub-table-2 : tie.Need-overflow-sub-table-2 invariant-loop decreases-loop
+sub-table-2 : tie.Need-overflow_sub-table-in-loop-q invariant-loop-q decreases-loop-q
 sub-table-2 c = omega (arith, (front c.before).from)
 
-cast-table : tie.Need-overflow-cast-table invariant-loop decreases-loop
+cast-table : tie.Need-overflow_cast-table invariant-loop-q decreases-loop-q
 cast-table c = omega (arith, (front c.before).most)
 
-mul-table : tie.Need-overflow-mul-table invariant-loop decreases-loop
+mul-table : tie.Need-offset_bounds-table-q invariant-loop-q decreases-loop-q
 mul-table c = omega arith
 
-slice-write-table : tie.Need-slice-write-table invariant-loop decreases-loop
+slice-write-table : tie.Need-bounds-table-q invariant-loop-q decreases-loop-q
 slice-write-table c = omega arith
 
-add-q : tie.Need-overflow-add-q invariant-loop decreases-loop
+add-q : tie.Need-overflow_add-q invariant-loop-q decreases-loop-q
 add-q c = omega arith
 
-loop-less : tie.Need-loop-smaller invariant-loop decreases-loop
+loop-less : tie.Need-loop-q-smaller invariant-loop-q decreases-loop-q
 loop-less c = omega arith
 
-loop-again : tie.Need-loop-preserved invariant-loop decreases-loop
+loop-again : tie.Need-loop-q-preserved invariant-loop-q decreases-loop-q
 loop-again c =
     let l = c.before.before.before in
     let f = front c.before in
-    (rw add-one f, rw add-one (front-settled _ (omega arith) f (omega arith) l.loop.invariant.1))
+    (rw add-one f, rw add-one (front-settled _ (omega arith) f (omega arith) l.loop-q.invariant.1))
 
-same_length : tie.Need-same-length invariant-loop decreases-loop
-same_length c = c.before.loop.invariant.1.held.long
+same_length : tie.Need-shape_of-table invariant-loop-q decreases-loop-q
+same_length c = c.loop-q.invariant.1.held.long
 
-returns : tie.Need-returns invariant-loop decreases-loop
-returns c = settled-all (omega arith) c.before.loop.invariant.1
+returns : tie.Need-returns invariant-loop-q decreases-loop-q
+returns c = settled-all (omega arith) c.loop-q.invariant.1
 
-pub prefix-entries-spec : {M : Type 1} → statement M
-prefix-entries-spec =
+pub prefix_entries_spec : {M : Type 1} → statement M
+prefix_entries_spec =
     tie.close
     (tie.spec
-    invariant-loop
-    decreases-loop
+    invariant-loop-q
+    decreases-loop-q
     loop-holds
     mul-k
     shared-slice-read-k

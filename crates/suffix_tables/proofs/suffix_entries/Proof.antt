@@ -17,123 +17,123 @@ use Rattle.suffix_tables.proofs.suffix_entries.Tie as tie
 on : {P table₀ table : List ℕ} {r t e u v : ℕ} → t ≤ length P → t ≤ e → Next P r e → Next P t u → v ≡ length P - 1 - r → Walk P r t table₀ table → Walk P r u table₀ (set table (t - 1) v)
 on {table = table} {t = t} {v = v} h l n m i w = let z : suc (t - 1) ≡ t = omega (arith, w.later) in walk-on {table = table} (t - 1) v (omega arith) (omega arith) n (rw z m) i (rw z w)
 
-abbrev invariant-loop2 : tie.invariant-loop2
-invariant-loop2 pattern borders table₀ m r end value t₀ table t = Walk pattern r t table₀ table
+abbrev invariant-loop-t : tie.invariant-loop-t
+invariant-loop-t pattern borders table₀ m r end value t₀ table t = Walk pattern r t table₀ table
 
-abbrev decreases-loop2 : tie.decreases-loop2
-decreases-loop2 pattern borders table₀ m r end value t₀ table t = 2 * (m - r) - 1 + get_or borders (r + 1) 0 + (end + 1 - t)
+abbrev decreases-loop-t : tie.decreases-loop-t
+decreases-loop-t pattern borders table₀ m r end value t₀ table t = 2 * (m - r) - 1 + get_or borders (r + 1) 0 + (end + 1 - t)
 
-abbrev invariant-loop : tie.invariant-loop
-invariant-loop pattern borders table₀ m r₀ table r = Settled pattern (length pattern) r table₀ table
+abbrev invariant-loop-r : tie.invariant-loop-r
+invariant-loop-r pattern borders table₀ m r₀ table r = Settled pattern (length pattern) r table₀ table
 
-abbrev decreases-loop : tie.decreases-loop
-decreases-loop pattern borders table₀ m r₀ table r = 2 * (m - r) + get_or borders r 0
+abbrev decreases-loop-r : tie.decreases-loop-r
+decreases-loop-r pattern borders table₀ m r₀ table r = 2 * (m - r) + get_or borders r 0
 
 -- what the outer loop reads: the next places of r and of r + 1
-around : (c : tie.After-shared-slice-known2 invariant-loop2 decreases-loop2 invariant-loop decreases-loop)
-    → let l = c.before.before.before in let a = l.before.args in
-    Next a.pattern.now l.loop.r (get_or a.borders.now l.loop.r 0) × Next a.pattern.now (suc l.loop.r) (get_or a.borders.now (l.loop.r + 1) 0)
+around : (c : tie.After-shared_slice_known-in-loop-r-1 invariant-loop-t decreases-loop-t invariant-loop-r decreases-loop-r)
+    → let l = c.before.before.before in let a = l.args in
+    Next a.pattern.now l.loop-r.r (get_or a.borders.now l.loop-r.r 0) × Next a.pattern.now (suc l.loop-r.r) (get_or a.borders.now (l.loop-r.r + 1) 0)
 around c =
     let l = c.before.before.before in
-    let n = l.before.requires.0 in
-    (suffix-reads _ l.loop.r n (omega arith), rw add-one (suffix-reads _ (suc l.loop.r) n (omega arith)))
+    let n = l.requires.0 in
+    (suffix-reads _ l.loop-r.r n (omega arith), rw add-one (suffix-reads _ (suc l.loop-r.r) n (omega arith)))
 
 -- the inner loop stays within the pattern
-within : (c : tie.In-loop2 invariant-loop2 decreases-loop2 invariant-loop decreases-loop) → let k = c.before in k.loop2.t ≤ length k.before.before.before.before.before.args.pattern.now
+within : (c : tie.In-loop-t invariant-loop-t decreases-loop-t invariant-loop-r decreases-loop-r) → let k = c.before in k.loop-t.t ≤ length k.args.pattern.now
 within c = omega (arith, (around c.before.before).0.inside (omega arith))
 
 -- what it reads: the next place of t
-followed : (c : tie.After-shared-slice-known3 invariant-loop2 decreases-loop2 invariant-loop decreases-loop)
-    → let k = c.before.before in let a = k.before.before.before.before.before.args in Next a.pattern.now k.loop2.t (get_or a.borders.now k.loop2.t 0)
-followed c = let k = c.before.before in suffix-reads _ k.loop2.t k.before.before.before.before.before.requires.0 (within c.before)
+followed : (c : tie.After-shared_slice_known-in-loop-t-1 invariant-loop-t decreases-loop-t invariant-loop-r decreases-loop-r)
+    → let k = c.before.before in let a = k.args in Next a.pattern.now k.loop-t.t (get_or a.borders.now k.loop-t.t 0)
+followed c = let k = c.before.before in suffix-reads _ k.loop-t.t k.requires.0 (within c.before)
 
-loop-holds : tie.Need-loop-init invariant-loop2 decreases-loop2 invariant-loop decreases-loop
+loop-holds : tie.Need-loop-r-init invariant-loop-t decreases-loop-t invariant-loop-r decreases-loop-r
 loop-holds c = c.requires.1.0
 
-mul-end : tie.Need-overflow-mul-end invariant-loop2 decreases-loop2 invariant-loop decreases-loop
+mul-end : tie.Need-offset_bounds-borders-r invariant-loop-t decreases-loop-t invariant-loop-r decreases-loop-r
 mul-end c = omega arith
 
-shared-slice-read-end : tie.Need-shared-slice-read-end invariant-loop2 decreases-loop2 invariant-loop decreases-loop
-shared-slice-read-end c = omega (arith, c.before.before.before.requires.0.room)
+shared-slice-read-end : tie.Need-bounds-borders-r invariant-loop-t decreases-loop-t invariant-loop-r decreases-loop-r
+shared-slice-read-end c = omega (arith, c.requires.0.room)
 
-cast-end : tie.Need-overflow-cast-end invariant-loop2 decreases-loop2 invariant-loop decreases-loop
-cast-end c = omega (arith, c.shared-slice-known.given c.before.before.loop.r)
+cast-end : tie.Need-overflow_cast-end invariant-loop-t decreases-loop-t invariant-loop-r decreases-loop-r
+cast-end c = omega (arith, c.shared_slice_known-1.given c.loop-r.r)
 
-sub-value : tie.Need-overflow-sub-value invariant-loop2 decreases-loop2 invariant-loop decreases-loop
+sub-value : tie.Need-overflow_sub-value invariant-loop-t decreases-loop-t invariant-loop-r decreases-loop-r
 sub-value c = omega arith
 
-sub-value-2 : tie.Need-overflow-sub-value-2 invariant-loop2 decreases-loop2 invariant-loop decreases-loop
+sub-value-2 : tie.Need-overflow_sub-value-in-loop-r invariant-loop-t decreases-loop-t invariant-loop-r decreases-loop-r
 sub-value-2 c = omega arith
 
-cast-value : tie.Need-overflow-cast-value invariant-loop2 decreases-loop2 invariant-loop decreases-loop
+cast-value : tie.Need-overflow_cast-value invariant-loop-t decreases-loop-t invariant-loop-r decreases-loop-r
 cast-value c = omega arith
 
-add-t : tie.Need-overflow-add-t invariant-loop2 decreases-loop2 invariant-loop decreases-loop
+add-t : tie.Need-overflow_add-t invariant-loop-t decreases-loop-t invariant-loop-r decreases-loop-r
 add-t c = omega arith
 
-mul-t : tie.Need-overflow-mul-t invariant-loop2 decreases-loop2 invariant-loop decreases-loop
+mul-t : tie.Need-offset_bounds-borders-r-in-loop-r invariant-loop-t decreases-loop-t invariant-loop-r decreases-loop-r
 mul-t c = omega arith
 
-shared-slice-read-t : tie.Need-shared-slice-read-t invariant-loop2 decreases-loop2 invariant-loop decreases-loop
-shared-slice-read-t c = omega (arith, c.before.before.before.before.requires.0.room)
+shared-slice-read-t : tie.Need-bounds-borders-r-in-loop-r invariant-loop-t decreases-loop-t invariant-loop-r decreases-loop-r
+shared-slice-read-t c = omega (arith, c.requires.0.room)
 
-cast_t : tie.Need-overflow-cast-t invariant-loop2 decreases-loop2 invariant-loop decreases-loop
-cast_t c = omega (arith, c.shared-slice-known2.given (c.before.before.before.loop.r + 1))
+cast_t : tie.Need-overflow_cast-t invariant-loop-t decreases-loop-t invariant-loop-r decreases-loop-r
+cast_t c = omega (arith, c.shared_slice_known-in-loop-r-1.given (c.loop-r.r + 1))
 
-loop2-holds : tie.Need-loop2-init invariant-loop2 decreases-loop2 invariant-loop decreases-loop
-loop2-holds c = walk_start (around c).1 (settled-anew c.before.before.before.loop.invariant)
+loop2-holds : tie.Need-loop-t-init invariant-loop-t decreases-loop-t invariant-loop-r decreases-loop-r
+loop2-holds c = walk_start (around c).1 (settled-anew c.loop-r.invariant)
 
-sub-table : tie.Need-overflow-sub-table invariant-loop2 decreases-loop2 invariant-loop decreases-loop
-sub-table c = omega (arith, c.before.loop2.invariant.later)
+sub-table : tie.Need-overflow_sub-table invariant-loop-t decreases-loop-t invariant-loop-r decreases-loop-r
+sub-table c = omega (arith, c.loop-t.invariant.later)
 
-mul-table : tie.Need-overflow-mul-table invariant-loop2 decreases-loop2 invariant-loop decreases-loop
+mul-table : tie.Need-offset_bounds-table-t invariant-loop-t decreases-loop-t invariant-loop-r decreases-loop-r
 mul-table c = omega (arith, within c)
 
-slice-write-table : tie.Need-slice-write-table invariant-loop2 decreases-loop2 invariant-loop decreases-loop
-slice-write-table c = let w = c.before.loop2.invariant in omega (arith, within c, w.held.room, w.later)
+slice-write-table : tie.Need-bounds-table-t invariant-loop-t decreases-loop-t invariant-loop-r decreases-loop-r
+slice-write-table c = let w = c.loop-t.invariant in omega (arith, within c, w.held.room, w.later)
 
-mul-t-2 : tie.Need-overflow-mul-t-2 invariant-loop2 decreases-loop2 invariant-loop decreases-loop
+mul-t-2 : tie.Need-offset_bounds-borders-t invariant-loop-t decreases-loop-t invariant-loop-r decreases-loop-r
 mul-t-2 c = omega (arith, within c)
 
-shared-slice-read-t-2 : tie.Need-shared-slice-read-t-2 invariant-loop2 decreases-loop2 invariant-loop decreases-loop
-shared-slice-read-t-2 c = omega (arith, within c.before, c.before.before.before.before.before.before.before.requires.0.room)
+shared-slice-read-t-2 : tie.Need-bounds-borders-t invariant-loop-t decreases-loop-t invariant-loop-r decreases-loop-r
+shared-slice-read-t-2 c = omega (arith, within c.before, c.requires.0.room)
 
-cast-t-2 : tie.Need-overflow-cast-t-2 invariant-loop2 decreases-loop2 invariant-loop decreases-loop
-cast-t-2 c = omega (arith, c.shared-slice-known3.given c.before.before.loop2.t)
+cast-t-2 : tie.Need-overflow_cast-t-in-loop-t invariant-loop-t decreases-loop-t invariant-loop-r decreases-loop-r
+cast-t-2 c = omega (arith, c.shared_slice_known-in-loop-t-1.given c.loop-t.t)
 
-loop2-again : tie.Need-loop2-preserved invariant-loop2 decreases-loop2 invariant-loop decreases-loop
+loop2-again : tie.Need-loop-t-preserved invariant-loop-t decreases-loop-t invariant-loop-r decreases-loop-r
 loop2-again c =
     let k = c.before.before in
-    on (within c.before) (omega arith) (around k.before).0 (followed c) (omega arith) k.loop2.invariant
+    on (within c.before) (omega arith) (around k.before).0 (followed c) (omega arith) k.loop-t.invariant
 
-loop2-less : tie.Need-loop2-smaller invariant-loop2 decreases-loop2 invariant-loop decreases-loop
+loop2-less : tie.Need-loop-t-smaller invariant-loop-t decreases-loop-t invariant-loop-r decreases-loop-r
 loop2-less c = omega (arith, (followed c).later)
 
-add_r : tie.Need-overflow-add-r invariant-loop2 decreases-loop2 invariant-loop decreases-loop
+add_r : tie.Need-overflow_add-r invariant-loop-t decreases-loop-t invariant-loop-r decreases-loop-r
 add_r c = omega arith
 
-loop-less : tie.Need-loop-smaller invariant-loop2 decreases-loop2 invariant-loop decreases-loop
+loop-less : tie.Need-loop-r-smaller invariant-loop-t decreases-loop-t invariant-loop-r decreases-loop-r
 loop-less c = let n = around c.before.before in omega (arith, next-step (omega arith) n.0 n.1)
 
-loop-again : tie.Need-loop-preserved invariant-loop2 decreases-loop2 invariant-loop decreases-loop
+loop-again : tie.Need-loop-r-preserved invariant-loop-t decreases-loop-t invariant-loop-r decreases-loop-r
 loop-again c =
     let k = c.before in
-    rw add-one (settled-since k.before.before.before.before.loop.invariant.held (walk_ends (around k.before).0 (omega arith) (omega arith) k.loop2.invariant))
+    rw add-one (settled-since k.loop-r.invariant.held (walk_ends (around k.before).0 (omega arith) (omega arith) k.loop-t.invariant))
 
-same_length : tie.Need-same-length invariant-loop2 decreases-loop2 invariant-loop decreases-loop
-same_length c = c.before.loop.invariant.held.long
+same_length : tie.Need-shape_of-table invariant-loop-t decreases-loop-t invariant-loop-r decreases-loop-r
+same_length c = c.loop-r.invariant.held.long
 
-returns : tie.Need-returns invariant-loop2 decreases-loop2 invariant-loop decreases-loop
-returns c = settled-from (omega arith) c.before.loop.invariant
+returns : tie.Need-returns invariant-loop-t decreases-loop-t invariant-loop-r decreases-loop-r
+returns c = settled-from (omega arith) c.loop-r.invariant
 
-pub suffix-entries-spec : {M : Type 1} → statement M
-suffix-entries-spec =
+pub suffix_entries_spec : {M : Type 1} → statement M
+suffix_entries_spec =
     tie.close
     (tie.spec
-    invariant-loop2
-    decreases-loop2
-    invariant-loop
-    decreases-loop
+    invariant-loop-t
+    decreases-loop-t
+    invariant-loop-r
+    decreases-loop-r
     loop-holds
     mul-end
     shared-slice-read-end

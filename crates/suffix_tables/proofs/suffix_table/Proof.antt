@@ -71,112 +71,112 @@ end P t h l m =
     ∙ ap (λ (x : List ℕ). tabulate (length P + 1) (suffix_entry P) ++ x) (drop-set-lt (length P + 1) t (length P) (length P + 1) (omega arith))
     ∙ sym (made_by (length P + 1) (length P + 1) (suffix_entry P) t room (omega arith))
 
-abbrev invariant-loop2 : tie.invariant-loop2
-invariant-loop2 pattern table m t₀ s c t = (t₀ ≤ t) × Chain pattern s t
+abbrev invariant-loop-t : tie.invariant-loop-t
+invariant-loop-t pattern table m t₀ s c t = (t₀ ≤ t) × Chain pattern s t
 
-abbrev decreases-loop2 : tie.decreases-loop2
-decreases-loop2 pattern table m t₀ s c t = 2 * s + (m + 1 - t)
+abbrev decreases-loop-t : tie.decreases-loop-t
+decreases-loop-t pattern table m t₀ s c t = 2 * s + (m + 1 - t)
 
-abbrev invariant-loop : tie.invariant-loop
-invariant-loop pattern table₀ m t₀ s₀ table t s = Made pattern s t table₀ table
+abbrev invariant-loop-s : tie.invariant-loop-s
+invariant-loop-s pattern table₀ m t₀ s₀ table t s = Made pattern s t table₀ table
 
-abbrev decreases-loop : tie.decreases-loop
-decreases-loop pattern table₀ m t₀ s₀ table t s = 2 * s + (m + 1 - t)
+abbrev decreases-loop-s : tie.decreases-loop-s
+decreases-loop-s pattern table₀ m t₀ s₀ table t s = 2 * s + (m + 1 - t)
 
 -- what the inner loop reads
-followed : (c : tie.After-slice-known invariant-loop2 decreases-loop2 invariant-loop decreases-loop)
-    → let k = c.before.before.before.before in let l = k.before.before.before in Next l.before.before.before.args.pattern.now k.loop2.t (get_or l.loop.table k.loop2.t 0)
+followed : (c : tie.After-slice_known-1 invariant-loop-t decreases-loop-t invariant-loop-s decreases-loop-s)
+    → let k = c.before.before.before.before in let l = k.before.before.before in Next l.args.pattern.now k.loop-t.t (get_or l.loop-s.table k.loop-t.t 0)
 followed c =
     let k = c.before.before.before.before in
     let l = k.before.before.before in
-    entry l.loop.invariant (omega arith) (omega arith) k.loop2.invariant.1
+    entry l.loop-s.invariant (omega arith) (omega arith) k.loop-t.invariant.1
 
-returns : tie.Need-returns invariant-loop2 decreases-loop2 invariant-loop decreases-loop
-returns c = let a = c.before.args in made-short-by (length a.pattern.now + 1) (length a.pattern.now + 1) (suffix_entry a.pattern.now) a.table.now (omega arith)
+returns : tie.Need-returns-then-table-m invariant-loop-t decreases-loop-t invariant-loop-s decreases-loop-s
+returns c = let a = c.args in made-short-by (length a.pattern.now + 1) (length a.pattern.now + 1) (suffix_entry a.pattern.now) a.table.now (omega arith)
 
-returns-2 : tie.Need-returns-2 invariant-loop2 decreases-loop2 invariant-loop decreases-loop
-returns-2 c = let a = c.before.before.args in made-long-by (length a.pattern.now + 1) (length a.pattern.now + 1) (suffix_entry a.pattern.now) a.table.now (omega arith) (omega arith)
+returns-2 : tie.Need-returns-then-m-gt65534 invariant-loop-t decreases-loop-t invariant-loop-s decreases-loop-s
+returns-2 c = let a = c.args in made-long-by (length a.pattern.now + 1) (length a.pattern.now + 1) (suffix_entry a.pattern.now) a.table.now (omega arith) (omega arith)
 
-add-t : tie.Need-overflow-add-t invariant-loop2 decreases-loop2 invariant-loop decreases-loop
+add-t : tie.Need-overflow_add-t invariant-loop-t decreases-loop-t invariant-loop-s decreases-loop-s
 add-t c = omega arith
 
-cast-table : tie.Need-overflow-cast-table invariant-loop2 decreases-loop2 invariant-loop decreases-loop
+cast-table : tie.Need-overflow_cast-table invariant-loop-t decreases-loop-t invariant-loop-s decreases-loop-s
 cast-table c = omega arith
 
-mul-table : tie.Need-overflow-mul-table invariant-loop2 decreases-loop2 invariant-loop decreases-loop
+mul-table : tie.Need-offset_bounds-table-m invariant-loop-t decreases-loop-t invariant-loop-s decreases-loop-s
 mul-table c = omega arith
 
-slice-write-table : tie.Need-slice-write-table invariant-loop2 decreases-loop2 invariant-loop decreases-loop
+slice-write-table : tie.Need-bounds-table-m invariant-loop-t decreases-loop-t invariant-loop-s decreases-loop-s
 slice-write-table c = omega arith
 
-loop-holds : tie.Need-loop-init invariant-loop2 decreases-loop2 invariant-loop decreases-loop
-loop-holds c = let a = c.before.before.args in start a.pattern.now a.table.now (omega arith)
+loop-holds : tie.Need-loop-s-init invariant-loop-t decreases-loop-t invariant-loop-s decreases-loop-s
+loop-holds c = let a = c.args in start a.pattern.now a.table.now (omega arith)
 
-sub-s : tie.Need-overflow-sub-s invariant-loop2 decreases-loop2 invariant-loop decreases-loop
+sub-s : tie.Need-overflow_sub-s invariant-loop-t decreases-loop-t invariant-loop-s decreases-loop-s
 sub-s c = omega arith
 
-shared-slice-read-c : tie.Need-shared-slice-read-c invariant-loop2 decreases-loop2 invariant-loop decreases-loop
-shared-slice-read-c c = omega (arith, c.before.before.loop.invariant.low)
+shared-slice-read-c : tie.Need-bounds-pattern-s invariant-loop-t decreases-loop-t invariant-loop-s decreases-loop-s
+shared-slice-read-c c = omega (arith, c.loop-s.invariant.low)
 
-loop2-holds : tie.Need-loop2-init invariant-loop2 decreases-loop2 invariant-loop decreases-loop
-loop2-holds c = (omega arith, begin c.before.before.loop.invariant (omega arith))
+loop2-holds : tie.Need-loop-t-init invariant-loop-t decreases-loop-t invariant-loop-s decreases-loop-s
+loop2-holds c = (omega arith, begin c.loop-s.invariant (omega arith))
 
-sub-if3 : tie.Need-overflow-sub-if3 invariant-loop2 decreases-loop2 invariant-loop decreases-loop
-sub-if3 c = omega (arith, c.before.loop2.invariant.1.later)
+sub-if3 : tie.Need-overflow_sub-t invariant-loop-t decreases-loop-t invariant-loop-s decreases-loop-s
+sub-if3 c = omega (arith, c.loop-t.invariant.1.later)
 
-shared-slice-read-if3 : tie.Need-shared-slice-read-if3 invariant-loop2 decreases-loop2 invariant-loop decreases-loop
-shared-slice-read-if3 c = omega (arith, c.before.before.loop2.invariant.1.later)
+shared-slice-read-if3 : tie.Need-bounds-pattern-t invariant-loop-t decreases-loop-t invariant-loop-s decreases-loop-s
+shared-slice-read-if3 c = omega (arith, c.loop-t.invariant.1.later)
 
-mul-t : tie.Need-overflow-mul-t invariant-loop2 decreases-loop2 invariant-loop decreases-loop
+mul-t : tie.Need-offset_bounds-table-t invariant-loop-t decreases-loop-t invariant-loop-s decreases-loop-s
 mul-t c = omega arith
 
-slice-read-t : tie.Need-slice-read-t invariant-loop2 decreases-loop2 invariant-loop decreases-loop
-slice-read-t c = omega (arith, c.before.before.before.before.before.before.before.loop.invariant.room)
+slice-read-t : tie.Need-bounds-table-t invariant-loop-t decreases-loop-t invariant-loop-s decreases-loop-s
+slice-read-t c = omega (arith, c.loop-s.invariant.room)
 
-cast_t : tie.Need-overflow-cast-t invariant-loop2 decreases-loop2 invariant-loop decreases-loop
-cast_t c = omega (arith, c.slice-known.given c.before.before.before.before.loop2.t)
+cast_t : tie.Need-overflow_cast-t invariant-loop-t decreases-loop-t invariant-loop-s decreases-loop-s
+cast_t c = omega (arith, c.slice_known-1.given c.loop-t.t)
 
-loop2-less : tie.Need-loop2-smaller invariant-loop2 decreases-loop2 invariant-loop decreases-loop
+loop2-less : tie.Need-loop-t-smaller invariant-loop-t decreases-loop-t invariant-loop-s decreases-loop-s
 loop2-less c = let n = followed c in omega (arith, n.later, n.most)
 
-loop2-again : tie.Need-loop2-preserved invariant-loop2 decreases-loop2 invariant-loop decreases-loop
-loop2-again c = let l = c.before.before.before.before in (omega (arith, (followed c).later), chain-on (omega arith) l.loop2.invariant.1 c.before.if3.false (followed c))
+loop2-again : tie.Need-loop-t-preserved invariant-loop-t decreases-loop-t invariant-loop-s decreases-loop-s
+loop2-again c = let l = c.before.before.before.before in (omega (arith, (followed c).later), chain-on (omega arith) l.loop-t.invariant.1 c.if-pattern-t.false (followed c))
 
-sub-t : tie.Need-overflow-sub-t invariant-loop2 decreases-loop2 invariant-loop decreases-loop
-sub-t c = omega (arith, c.before.loop2.invariant.1.later)
+sub-t : tie.Need-overflow_sub-t-in-loop-s invariant-loop-t decreases-loop-t invariant-loop-s decreases-loop-s
+sub-t c = omega (arith, c.loop-t.invariant.1.later)
 
-cast-table-2 : tie.Need-overflow-cast-table-2 invariant-loop2 decreases-loop2 invariant-loop decreases-loop
-cast-table-2 c = omega (arith, c.before.loop2.invariant.1.most)
+cast-table-2 : tie.Need-overflow_cast-table-in-loop-s invariant-loop-t decreases-loop-t invariant-loop-s decreases-loop-s
+cast-table-2 c = omega (arith, c.loop-t.invariant.1.most)
 
-mul-table-2 : tie.Need-overflow-mul-table-2 invariant-loop2 decreases-loop2 invariant-loop decreases-loop
-mul-table-2 c = omega (arith, c.before.before.before.before.loop.invariant.low)
+mul-table-2 : tie.Need-offset_bounds-table-s invariant-loop-t decreases-loop-t invariant-loop-s decreases-loop-s
+mul-table-2 c = omega (arith, c.loop-s.invariant.low)
 
-slice-write-table-2 : tie.Need-slice-write-table-2 invariant-loop2 decreases-loop2 invariant-loop decreases-loop
-slice-write-table-2 c = let m = c.before.before.before.before.loop.invariant in omega (arith, m.room, m.low)
+slice-write-table-2 : tie.Need-bounds-table-s invariant-loop-t decreases-loop-t invariant-loop-s decreases-loop-s
+slice-write-table-2 c = let m = c.loop-s.invariant in omega (arith, m.room, m.low)
 
-loop-less : tie.Need-loop-smaller invariant-loop2 decreases-loop2 invariant-loop decreases-loop
-loop-less c = let k = c.before.loop2.invariant in omega (arith, k.1.later, k.1.most)
+loop-less : tie.Need-loop-s-smaller invariant-loop-t decreases-loop-t invariant-loop-s decreases-loop-s
+loop-less c = let k = c.loop-t.invariant in omega (arith, k.1.later, k.1.most)
 
-loop-again : tie.Need-loop-preserved invariant-loop2 decreases-loop2 invariant-loop decreases-loop
+loop-again : tie.Need-loop-s-preserved invariant-loop-t decreases-loop-t invariant-loop-s decreases-loop-s
 loop-again c =
     let l = c.before in
-    stored l.before.before.before.loop.invariant (omega arith) l.loop2.invariant.1
-    (⊎_elim (λ x h. absurd (omega arith)) (λ x _. x.2.taken) c.loop2-test.branch)
+    stored l.loop-s.invariant (omega arith) l.loop-t.invariant.1
+    (⊎_elim (λ x h. absurd (omega arith)) (λ x _. x.if-pattern-t.true) c.loop-t-test.branch-raw)
 
-same_length : tie.Need-same-length invariant-loop2 decreases-loop2 invariant-loop decreases-loop
-same_length c = c.before.loop.invariant.long ∙ simp length-set
+same_length : tie.Need-shape_of-table invariant-loop-t decreases-loop-t invariant-loop-s decreases-loop-s
+same_length c = c.loop-s.invariant.long ∙ simp length-set
 
-returns-3 : tie.Need-returns-3 invariant-loop2 decreases-loop2 invariant-loop decreases-loop
-returns-3 c = let a = c.before.before.before.before.args in end a.pattern.now a.table.now (omega arith) (omega arith) c.before.loop.invariant
+returns-3 : tie.Need-returns invariant-loop-t decreases-loop-t invariant-loop-s decreases-loop-s
+returns-3 c = let a = c.args in end a.pattern.now a.table.now (omega arith) (omega arith) c.loop-s.invariant
 
-pub suffix-table-spec : {M : Type 1} → statement M
-suffix-table-spec =
+pub suffix_table_spec : {M : Type 1} → statement M
+suffix_table_spec =
     tie.close
     (tie.spec
-    invariant-loop2
-    decreases-loop2
-    invariant-loop
-    decreases-loop
+    invariant-loop-t
+    decreases-loop-t
+    invariant-loop-s
+    decreases-loop-s
     returns
     returns-2
     add-t
