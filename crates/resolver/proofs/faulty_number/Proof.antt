@@ -5,17 +5,17 @@ use lib.ListN.{get_or-eq_default}
 use Rattle.resolver.proofs.faulty_number.Statement.{statement}
 use Rattle.resolver.proofs.faulty_number.Tie as tie
 
-returns : tie.Need-returns
-returns c = sym (get_or-eq_default c.before.args.numbers.now 0 c.if1.true)
+returns : tie.Need-returns-then-numbers-put
+returns c = sym (get_or-eq_default c.args.numbers.now 0 c.if-numbers-put.true)
 
-mul-result : tie.Need-overflow-mul-result
+mul-result : tie.Need-offset_bounds-numbers-put
 mul-result c = search rules
 
-shared-slice-read-result : tie.Need-shared-slice-read-result
+shared-slice-read-result : tie.Need-bounds-numbers-put
 shared-slice-read-result c = search rules
 
-returns-2 : tie.Need-returns-2
+returns-2 : tie.Need-returns
 returns-2 c = search rules
 
-pub faulty-number-spec : {M : Type 1} → statement M
-faulty-number-spec = tie.close (tie.spec returns mul-result shared-slice-read-result returns-2)
+pub faulty_number_spec : {M : Type 1} → statement M
+faulty_number_spec = tie.close (tie.spec returns mul-result shared-slice-read-result returns-2)

@@ -12,50 +12,50 @@ use Rattle.resolver.proofs.put_entries.Statement.{statement}
 use Rattle.resolver.proofs.put_entries.Tie as tie
 
 -- where the call came in
-abbrev called : tie.After-line-column → tie.Start
+abbrev called : tie.After-line_column-spot → tie.Start
 called k = k.before.before.before.before.before
 
 -- the line and the column of the place
-spot : (k : tie.After-line-column) → k.line-column.result ≡ line_column (called k).args.text.now (called k).args.place
-spot k = let s = called k in k.line-column.ensures ∙ line_known s.args.text.now s.args.known s.args.place s.pre.1.1
+spot : (k : tie.After-line_column-spot) → k.line_column-spot.result ≡ line_column (called k).args.text.now (called k).args.place
+spot k = let s = called k in k.line_column-spot.ensures ∙ line_known s.args.text.now s.args.known s.args.place s.requires.1.1
 
-cast-line-column : tie.Need-overflow-cast-line-column
+cast-line-column : tie.Need-overflow_cast-told
 cast-line-column c = let s = c.before.before.before in omega (arith, ap (λ (x : LineColumn). x.line) s.requires.1.1, line_small s.args.text.now s.args.known, s.requires.1.0)
 
-cast-line-column-2 : tie.Need-overflow-cast-line-column-2
+cast-line-column-2 : tie.Need-overflow_cast-told-2
 cast-line-column-2 c = let s = c.before.before.before.before in omega (arith, ap (λ (x : LineColumn). x.column) s.requires.1.1, column-small s.args.text.now s.args.known, s.requires.1.0)
 
-line-column-requires : tie.Need-line-column-requires
+line-column-requires : tie.Need-line_column-spot-requires
 line-column-requires c κs = search rules
 
-cast-line : tie.Need-overflow-cast-line
+cast-line : tie.Need-overflow_cast-line
 cast-line c =
     let k = c.before in
     let s = called k in
-    omega (arith, ap (λ (x : LineColumn). x.line) (spot k), line_small s.args.text.now s.args.place, s.pre.1.0)
+    omega (arith, ap (λ (x : LineColumn). x.line) (spot k), line_small s.args.text.now s.args.place, s.requires.1.0)
 
-cast-column : tie.Need-overflow-cast-column
+cast-column : tie.Need-overflow_cast-column
 cast-column c =
     let k = c.before.before in
     let s = called k in
-    omega (arith, ap (λ (x : LineColumn). x.column) (spot k), column-small s.args.text.now s.args.place, s.pre.1.0)
+    omega (arith, ap (λ (x : LineColumn). x.column) (spot k), column-small s.args.text.now s.args.place, s.requires.1.0)
 
 store-requires : tie.Need-store-requires
 store-requires c κs = search rules
 
-add-store : tie.Need-overflow-add-store
+add-store : tie.Need-overflow_add-at
 add-store c = search rules
 
 store-requires-2 : tie.Need-store-requires-2
 store-requires-2 c κs = search rules
 
-add-store-2 : tie.Need-overflow-add-store-2
+add-store-2 : tie.Need-overflow_add-at-2
 add-store-2 c = search rules
 
 store-requires-3 : tie.Need-store-requires-3
 store-requires-3 c κs = search rules
 
-same_length : tie.Need-same-length
+same_length : tie.Need-shape_of-entries
 same_length c = search rules
 
 returns : tie.Need-returns
@@ -67,14 +67,14 @@ returns c =
     let a = (called k).args in
     let line = ap (λ (x : LineColumn). x.line) (spot k) in (
       spot k,
-      third.store3.ensures
+      third.store-3.ensures
           ∙ ap₂ (λ (l : List ℕ) (v : ℕ). set l (a.at + 2) v)
-          (second.store2.ensures ∙ ap₂ (λ (l : List ℕ) (v : ℕ). set l (a.at + 1) v) first.store.ensures line)
+          (second.store-2.ensures ∙ ap₂ (λ (l : List ℕ) (v : ℕ). set l (a.at + 1) v) first.store.ensures line)
           (ap (λ (x : LineColumn). x.column) (spot k)),
     )
 
-pub put-entries-spec : {M : Type 1} → statement M
-put-entries-spec =
+pub put_entries_spec : {M : Type 1} → statement M
+put_entries_spec =
     tie.close
     (tie.spec
     cast-line-column
