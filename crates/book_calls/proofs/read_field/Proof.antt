@@ -4,17 +4,17 @@ use Rattle.book_calls.proofs.Roles.{may-not, may-do}
 use Rattle.book_calls.proofs.read_field.Statement.{statement}
 use Rattle.book_calls.proofs.read_field.Tie as tie
 
-may-all-requires : tie.Need-may-all-requires
+may-all-requires : tie.Need-may_all-requires
 may-all-requires c κs = search rules
 
-returns : tie.Need-returns
-returns c = rw (may-not c.before.may-all.ensures c.if1.true)
+returns : tie.Need-returns-then-not-may_all
+returns c = rw (may-not c.may_all.ensures c.if-not-may_all.true-raw)
 
-read-field-requires : tie.Need-read-field-requires
+read-field-requires : tie.Need-read_field-requires
 read-field-requires c κs = search rules
 
-returns-2 : tie.Need-returns-2
-returns-2 c = let e = c.before in rw (may-do e.before.may-all.ensures e.if1.false) c.read-field.ensures
+returns-2 : tie.Need-returns
+returns-2 c = let e = c.before in rw (may-do e.may_all.ensures e.if-not-may_all.false-raw) c.read_field.ensures
 
-pub read-field-spec : {M : Type 1} → statement M
-read-field-spec = tie.close (tie.spec may-all-requires returns read-field-requires returns-2)
+pub read_field_spec : {M : Type 1} → statement M
+read_field_spec = tie.close (tie.spec may-all-requires returns read-field-requires returns-2)

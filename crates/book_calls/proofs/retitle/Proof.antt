@@ -6,24 +6,24 @@ use Rattle.book_calls.proofs.Roles.{may-not, may-do}
 use Rattle.book_calls.proofs.retitle.Statement.{statement}
 use Rattle.book_calls.proofs.retitle.Tie as tie
 
-may-retitle-requires : tie.Need-may-retitle-requires
+may-retitle-requires : tie.Need-may_retitle-requires
 may-retitle-requires c κs = search rules
 
-returns : tie.Need-returns
-returns c = let no = may-not c.before.may-retitle.ensures c.if1.true in record { done = λ yes. absurd (false≢true (sym no ∙ yes)); refused = λ _. (refl, refl) }
+returns : tie.Need-returns-then-not-may_retitle
+returns c = let no = may-not c.may_retitle.ensures c.if-not-may_retitle.true-raw in record { done = λ yes. absurd (false≢true (sym no ∙ yes)); refused = λ _. (refl, refl) }
 
 retitle-requires : tie.Need-retitle-requires
 retitle-requires c κs = search rules
 
-same_length : tie.Need-same-length
+same_length : tie.Need-shape_of-buffer
 same_length c = search rules
 
-returns-2 : tie.Need-returns-2
+returns-2 : tie.Need-returns
 returns-2 c =
     let w = c.before.before in
     let e = w.before.before in
-    let yes = may-do e.before.may-retitle.ensures e.if1.false in
+    let yes = may-do e.may_retitle.ensures e.if-not-may_retitle.false-raw in
     record { done = λ _. w.retitle.ensures; refused = λ no. absurd (false≢true (sym no ∙ yes)) }
 
-pub retitle-spec : {M : Type 1} → statement M
-retitle-spec = tie.close (tie.spec may-retitle-requires returns retitle-requires same_length returns-2)
+pub retitle_spec : {M : Type 1} → statement M
+retitle_spec = tie.close (tie.spec may-retitle-requires returns retitle-requires same_length returns-2)

@@ -16,20 +16,20 @@ same-days : {phrase title buffer buffer' : List ℕ} {ordinal house : ℕ} {mark
     → Written (cue_with phrase ordinal title given mark) house buffer r buffer'
 same-days {phrase} {title} {buffer} {buffer'} {ordinal} {house} {mark} {r} e w = subst (λ (d : Days). Written (cue_with phrase ordinal title d mark) house buffer r buffer') e w
 
-given-days-requires : tie.Need-given-days-requires
+given-days-requires : tie.Need-given_days-days-requires
 given-days-requires c κs = search rules
 
-write-cue-requires : tie.Need-write-cue-requires
+write-cue-requires : tie.Need-write_cue-requires
 write-cue-requires c κs = search rules
 
-same_length : tie.Need-same-length
+same_length : tie.Need-shape_of-buffer
 same_length c = search rules
 
 returns : tie.Need-returns
 returns c =
     let w = c.before.before in
     let g = w.before.before in
-    same-days g.given-days.ensures w.write-cue.ensures
+    same-days g.given_days-days.ensures w.write_cue.ensures
 
-pub write-cue-spec : {M : Type 1} → statement M
-write-cue-spec = tie.close (tie.spec given-days-requires write-cue-requires same_length returns)
+pub write_cue_spec : {M : Type 1} → statement M
+write_cue_spec = tie.close (tie.spec given-days-requires write-cue-requires same_length returns)

@@ -17,43 +17,43 @@ use Rattle.retitle.proofs.retitle.Statement.{statement}
 use Rattle.retitle.proofs.retitle.Tie as tie
 
 -- the places of this proof: where the call came in, where the book was read and its title found, and where nothing but the buffer's length is left to test
-abbrev start : tie.After-find-title → tie.Start
+abbrev start : tie.After-find_title-found → tie.Start
 start f = f.before.before.before.before
 
-abbrev book : tie.After-find-title → List ℕ
+abbrev book : tie.After-find_title-found → List ℕ
 book f = (start f).args.book.now
 
-abbrev found : tie.Else3 → tie.After-find-title
+abbrev found : tie.Else-found-cue → tie.After-find_title-found
 found e = e.before.before.before.before.before
 
-abbrev tested : tie.After-put-book-arg2 → tie.Else3
-tested c = c.before.before.before.before
+abbrev tested : tie.After-put_book-arg-1 → tie.Else-found-cue
+tested c = c.before.before.before
 
 -- its letters are bytes
-bytes : (f : tie.After-find-title) → Bytes (book f)
-bytes f i = omega (arith, f.before.before.before.shared-slice-known.given i)
+bytes : (f : tie.After-find_title-found) → Bytes (book f)
+bytes f i = omega (arith, f.shared_slice_known-1.given i)
 
 -- the book is read
-read : (e : tie.Else1) → refusal_of (read_book (book e.before.before)) ≡ 0
-read e = sym (ap (λ (t : TitleRead). t.refusal) e.before.before.find-title.ensures) ∙ e.if1.false
+read : (e : tie.Else-found-ne0) → refusal_of (read_book (book e.before.before)) ≡ 0
+read e = sym (ap (λ (t : TitleRead). t.refusal) e.find_title-found.ensures) ∙ e.if-found-ne0.false
 
 -- it has the cue
-among : (e : tie.Else3) → (start (found e)).args.cue < number_of (read_book (book (found e)))
-among e = omega (arith, e.if3.false, ap (λ (t : TitleRead). t.number) (found e).find-title.ensures)
+among : (e : tie.Else-found-cue) → (start (found e)).args.cue < number_of (read_book (book (found e)))
+among e = omega (arith, e.if-found-cue.false, ap (λ (t : TitleRead). t.number) (found e).find_title-found.ensures)
 
 -- where the title stands: its header before it, and all of it in the book
-record Stands (e : tie.Else3) : Type 0 where
-  start_is : (found e).find-title.result.start ≡ (title_part (book (found e)) (start (found e)).args.cue).start
-  len_is : (found e).find-title.result.len ≡ (title_part (book (found e)) (start (found e)).args.cue).len
-  header : 3 ≤ (found e).find-title.result.start
-  inside : (found e).find-title.result.start + (found e).find-title.result.len ≤ length (book (found e))
+record Stands (e : tie.Else-found-cue) : Type 0 where
+  start_is : (found e).find_title-found.result.start ≡ (title_part (book (found e)) (start (found e)).args.cue).start
+  len_is : (found e).find_title-found.result.len ≡ (title_part (book (found e)) (start (found e)).args.cue).len
+  header : 3 ≤ (found e).find_title-found.result.start
+  inside : (found e).find_title-found.result.start + (found e).find_title-found.result.len ≤ length (book (found e))
 
-stands : (e : tie.Else3) → Stands e
+stands : (e : tie.Else-found-cue) → Stands e
 stands e =
     let f = found e in
     let cue : ℕ = (start f).args.cue in
-    let s = ap (λ (t : TitleRead). t.start) f.find-title.ensures in
-    let l = ap (λ (t : TitleRead). t.len) f.find-title.ensures in
+    let s = ap (λ (t : TitleRead). t.start) f.find_title-found.ensures in
+    let l = ap (λ (t : TitleRead). t.len) f.find_title-found.ensures in
     record {
       start_is = s;
       len_is = l;
@@ -61,72 +61,72 @@ stands e =
       inside = omega (arith, s, l, (title-shows (book f) cue).inside);
     }
 
-find-title-requires : tie.Need-find-title-requires
+find-title-requires : tie.Need-find_title-found-requires
 find-title-requires c κs = search rules
 
-returns : tie.Need-returns
+returns : tie.Need-returns-then-found-ne0
 returns c =
     let f = c.before.before in
-    let e = f.find-title.ensures in
-    fault-given (ap (λ (t : TitleRead). t.refusal) e) c.if1.true (ap (λ (t : TitleRead). t.number) e)
+    let e = f.find_title-found.ensures in
+    fault-given (ap (λ (t : TitleRead). t.refusal) e) c.if-found-ne0.true (ap (λ (t : TitleRead). t.number) e)
 
-returns-2 : tie.Need-returns-2
-returns-2 c = title-given (read c.before) (omega (arith, c.if2.true))
+returns-2 : tie.Need-returns-then-title-gt200
+returns-2 c = title-given (read c.before) (omega (arith, c.if-title-gt200.true))
 
-returns-3 : tie.Need-returns-3
+returns-3 : tie.Need-returns-then-found-cue
 returns-3 c =
     let e = c.before.before in
     let f = e.before.before.before in
-    cue-given (read e.before) (omega (arith, e.if2.false)) (omega (arith, c.if3.true, ap (λ (t : TitleRead). t.number) f.find-title.ensures))
+    cue-given (read e.before) (omega (arith, e.if-title-gt200.false)) (omega (arith, c.if-found-cue.true, ap (λ (t : TitleRead). t.number) f.find_title-found.ensures))
 
-sub-start : tie.Need-overflow-sub-start
+sub-start : tie.Need-overflow_sub-start
 sub-start c = omega (arith, (stands c.before).header)
 
-add-end : tie.Need-overflow-add-end
+add-end : tie.Need-overflow_add-end
 add-end c = omega (arith, (stands c.before.before).inside)
 
-slice-aggregate-put-book : tie.Need-slice-aggregate-put-book
+slice-aggregate-put-book : tie.Need-slice_bounds-put_book-end
 slice-aggregate-put-book c =
     let e = tested c in
     let f = found e in
-    sym (length-take-le (f.find-title.result.start - 2) (book f) (omega (arith, (stands e).inside)))
+    sym (length-take-le (f.find_title-found.result.start - 2) (book f) (omega (arith, (stands e).inside)))
 
-sub-put-book : tie.Need-overflow-sub-put-book
+sub-put-book : tie.Need-slice_bounds-put_book-count
 sub-put-book c = omega (arith, (stands (tested c)).inside)
 
-part-put-book-start : tie.Need-slice-bounds-put-book-start
+part-put-book-start : tie.Need-slice_bounds-put_book-start
 part-put-book-start c = omega (arith, (stands (tested c)).inside)
 
-part-put-book-end : tie.Need-slice-bounds-put-book-end
+part-put-book-end : tie.Need-slice_bounds-put_book-end-2
 part-put-book-end c = search rules
 
-put-book-requires : tie.Need-put-book-requires
+put-book-requires : tie.Need-put_book-requires
 put-book-requires c κs =
     let e = tested c.before in
     let f = found e in
-    let start = f.find-title.result.start in
-    let end = start + f.find-title.result.len in (
-      omega (arith, e.before.before.if2.left),
+    let start = f.find_title-found.result.start in
+    let end = start + f.find_title-found.result.len in (
+      omega (arith, e.if-title-gt200.false),
       omega (arith, (stands e).inside, length-take-le (start - 2) (book f) (omega (arith, (stands e).inside)), ap length (from_is (book f) end), length-drop end (book f), book-most (book f) (bytes f) (accepted-book (book f) (read e.before.before.before)).0),
     )
 
-same_length : tie.Need-same-length
+same_length : tie.Need-shape_of-buffer
 same_length c = search rules
 
-returns-4 : tie.Need-returns-4
+returns-4 : tie.Need-returns
 returns-4 c =
     let p = c.before.before in
     let e = tested p.before.before in
     let f = found e in
     let s = stands e in
-    let r = f.find-title.result in
-    put-given (read e.before.before.before) (omega (arith, e.before.before.if2.left)) (among e)
+    let r = f.find_title-found.result in
+    put-given (read e.before.before.before) (omega (arith, e.if-title-gt200.false)) (among e)
     (ap (λ (n : ℕ). take (n - 2) (book f)) s.start_is)
     (from_is (book f) (r.start + r.len) ∙ ap₂ (λ (n k : ℕ). drop (n + k) (book f)) s.start_is s.len_is)
-    p.put-book.ensures
+    p.put_book.ensures
 
-pub retitle-spec : {M : Type 1} → statement M
-retitle-spec =
+pub retitle_spec : {M : Type 1} → statement M
+retitle_spec =
     tie.close
     (tie.spec
     find-title-requires
