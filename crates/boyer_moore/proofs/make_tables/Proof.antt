@@ -17,46 +17,46 @@ use Rattle.boyer_moore.specs.BoyerMoore.{boyer_moore}
 use Rattle.boyer_moore.proofs.make_tables.Statement.{statement}
 use Rattle.boyer_moore.proofs.make_tables.Tie as tie
 
-slice-relend-prefix-delta1-table : tie.Need-slice-relend-prefix-delta1-table
+slice-relend-prefix-delta1-table : tie.Need-slice_bounds-delta1_table-end
 slice-relend-prefix-delta1-table c = search rules
 
-slice-aggregate-delta1-table : tie.Need-slice-aggregate-delta1-table
-slice-aggregate-delta1-table c = sym (length-take-le 256 c.before.before.before.args.scratch.now (omega arith))
+slice-aggregate-delta1-table : tie.Need-slice_bounds-delta1_table-end-2
+slice-aggregate-delta1-table c = sym (length-take-le 256 c.args.scratch.now (omega arith))
 
-delta1-table-requires : tie.Need-delta1-table-requires
+delta1-table-requires : tie.Need-delta1_table-requires
 delta1-table-requires c κs = search rules
 
-slice-aggregate-delta2-table : tie.Need-slice-aggregate-delta2-table
+slice-aggregate-delta2-table : tie.Need-slice_bounds-delta2_table-end
 slice-aggregate-delta2-table c = search rules
 
-sub-delta2-table : tie.Need-overflow-sub-delta2-table
+sub-delta2-table : tie.Need-slice_bounds-delta2_table-count
 sub-delta2-table c = search rules
 
-part-delta2-table-start : tie.Need-slice-bounds-delta2-table-start
+part-delta2-table-start : tie.Need-slice_bounds-delta2_table-start
 part-delta2-table-start c = search rules
 
-part-delta2-table-end : tie.Need-slice-bounds-delta2-table-end
+part-delta2-table-end : tie.Need-slice_bounds-delta2_table-end-then-pattern-le64
 part-delta2-table-end c = search rules
 
-delta2-table-requires : tie.Need-delta2-table-requires
+delta2-table-requires : tie.Need-delta2_table-requires
 delta2-table-requires c κs = search rules
 
-slice-aggregate-delta2-table-2 : tie.Need-slice-aggregate-delta2-table-2
+slice-aggregate-delta2-table-2 : tie.Need-slice_bounds-delta2_table-end-else-pattern-le64
 slice-aggregate-delta2-table-2 c = search rules
 
-sub-delta2-table-2 : tie.Need-overflow-sub-delta2-table-2
+sub-delta2-table-2 : tie.Need-slice_bounds-delta2_table-count-else-pattern-le64
 sub-delta2-table-2 c = search rules
 
-part-delta2-table-start-2 : tie.Need-slice-bounds-delta2-table-start-2
+part-delta2-table-start-2 : tie.Need-slice_bounds-delta2_table-start-else-pattern-le64
 part-delta2-table-start-2 c = search rules
 
-part-delta2-table-end-2 : tie.Need-slice-bounds-delta2-table-end-2
+part-delta2-table-end-2 : tie.Need-slice_bounds-delta2_table-end-else-pattern-le64-2
 part-delta2-table-end-2 c = search rules
 
-delta2-table-requires-2 : tie.Need-delta2-table-requires-2
+delta2-table-requires-2 : tie.Need-delta2_table-requires-else-pattern-le64
 delta2-table-requires-2 c κs = search rules
 
-same_length : tie.Need-same-length
+same_length : tie.Need-shape_of-scratch-then-pattern-le64
 same_length c = search rules
 
 -- what both makers leave, where the second one had room for the borders
@@ -68,33 +68,33 @@ both-made P scratch room short fits long first second =
     ∙ sym (both-received 256 m (delta1_entry P) (λ q. delta2_entry P (suc q)) scratch fits)
 
 -- the first maker's call, and its part of the scratch
-abbrev start : tie.After-delta1-table → tie.Start
+abbrev start : tie.After-delta1_table → tie.Start
 start d = d.before.before.before.before
 
-front : (d : tie.After-delta1-table) → let a = (start d).args in d.delta1-table.new.1.0 ++ drop 256 a.scratch.now ≡ made (length a.pattern.now) (delta1_table a.pattern.now) a.scratch.now
+front : (d : tie.After-delta1_table) → let a = (start d).args in d.delta1_table.new.table ++ drop 256 a.scratch.now ≡ made (length a.pattern.now) (delta1_table a.pattern.now) a.scratch.now
 front d =
     let a = (start d).args in
-    made-front (length a.pattern.now) 256 (delta1_entry a.pattern.now) a.scratch.now (omega arith) (omega arith) d.delta1-table.ensures
+    made-front (length a.pattern.now) 256 (delta1_entry a.pattern.now) a.scratch.now (omega arith) (omega arith) d.delta1_table.ensures
 
-returns : tie.Need-returns
+returns : tie.Need-returns-then-pattern-le64
 returns c =
     let k = c.before.before.before in
     let d = k.before.before.before.before.before.before in
     let a = (start d).args in
-    both-made a.pattern.now a.scratch.now 65 (omega arith) (omega arith) (omega arith) (front d) k.delta2-table.ensures.1
+    both-made a.pattern.now a.scratch.now 65 (omega arith) (omega arith) (omega arith) (front d) k.delta2_table.ensures.1
 
-same-length-2 : tie.Need-same-length-2
+same-length-2 : tie.Need-shape_of-scratch-else-pattern-le64
 same-length-2 c = search rules
 
-returns-2 : tie.Need-returns-2
+returns-2 : tie.Need-returns-else-pattern-le64
 returns-2 c =
     let k = c.before.before.before in
     let d = k.before.before.before.before.before.before in
     let a = (start d).args in
-    both-made a.pattern.now a.scratch.now 1025 (omega arith) (omega arith) (omega arith) (front d) k.delta2-table2.ensures.1
+    both-made a.pattern.now a.scratch.now 1025 (omega arith) (omega arith) (omega arith) (front d) k.delta2_table-else-pattern-le64.ensures.1
 
-pub make-tables-spec : {M : Type 1} → statement M
-make-tables-spec =
+pub make_tables_spec : {M : Type 1} → statement M
+make_tables_spec =
     tie.close
     (tie.spec
     slice-relend-prefix-delta1-table

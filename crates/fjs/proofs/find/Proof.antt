@@ -8,54 +8,54 @@ use Rattle.fjs.proofs.find.Statement.{statement}
 use Rattle.fjs.proofs.find.Tie as tie
 
 -- the call, from where it is prepared; that place, from where the call is refused or not, and from where the search is done
-abbrev call : tie.After-prepare → tie.Start
+abbrev call : tie.After-prepare-refusal → tie.Start
 call p = p.before.before.before.before.before.before
 
-abbrev tested : tie.Else1 → tie.After-prepare
+abbrev tested : tie.Else-refusal-ne0 → tie.After-prepare-refusal
 tested e = e.before.before.before
 
-abbrev entered : tie.After-search → tie.Else1
-entered s = s.before.before.before.before
+abbrev entered : tie.After-search-r → tie.Else-refusal-ne0
+entered s = s.before.before.before
 
-allowed : (e : tie.Else1) → let a = (call (tested e)).args in Accepted fjs a.pattern.now a.text.now a.scratch.now
-allowed e = accepted (tested e).prepare.ensures.0 e.if1.false
+allowed : (e : tie.Else-refusal-ne0) → let a = (call (tested e)).args in Accepted fjs a.pattern.now a.text.now a.scratch.now
+allowed e = accepted (tested e).prepare-refusal.ensures.0 e.if-refusal-ne0.false
 
 -- where the search is done, from where the call ends
-abbrev searched : tie.After-struct-known → tie.After-search
+abbrev searched : tie.After-struct_known-1 → tie.After-search-r
 searched c = c.before.before.before.before
 
-prepare-requires : tie.Need-prepare-requires
+prepare-requires : tie.Need-prepare-refusal-requires
 prepare-requires c κs = search rules
 
-same_length : tie.Need-same-length
+same_length : tie.Need-shape_of-scratch-then-refusal-ne0
 same_length c = search rules
 
-returns : tie.Need-returns
-returns c = let p = c.before.before.before.prepare.ensures in (found_none p.1 p.0 c.if1.true, λ h. omega arith)
+returns : tie.Need-returns-then-refusal-ne0
+returns c = let p = c.prepare-refusal.ensures in (found_none p.1 p.0 c.if-refusal-ne0.true, λ h. omega arith)
 
-slice-aggregate-search : tie.Need-slice-aggregate-search
+slice-aggregate-search : tie.Need-slice_bounds-search-end
 slice-aggregate-search c = search rules
 
-search-requires : tie.Need-search-requires
-search-requires c κs = let e = c.before.before.before in ready (tested e).prepare.ensures.1 (allowed e)
+search-requires : tie.Need-search-r-requires
+search-requires c κs = let e = c.before.before in ready (tested e).prepare-refusal.ensures.1 (allowed e)
 
-cast-found : tie.Need-overflow-cast-found
-cast-found c = let s = searched c in omega (arith, total-fits (allowed (entered s)) s.search.ensures)
+cast-found : tie.Need-overflow_cast-found
+cast-found c = let s = searched c in omega (arith, total-fits (allowed (entered s)) s.search-r.ensures)
 
-cast-looks : tie.Need-overflow-cast-looks
-cast-looks c = let s = searched c.before in omega (arith, looks-fit (allowed (entered s)) s.search.ensures)
+cast-looks : tie.Need-overflow_cast-looks
+cast-looks c = let s = searched c.before in omega (arith, looks-fit (allowed (entered s)) s.search-r.ensures)
 
-same-length-2 : tie.Need-same-length-2
+same-length-2 : tie.Need-shape_of-scratch
 same-length-2 c = search rules
 
-same-length-3 : tie.Need-same-length-3
-same-length-3 c = (searched c.before).search.ensures.long.0
+same-length-3 : tie.Need-shape_of-list
+same-length-3 c = (searched c.before).search-r.ensures.long.0
 
-returns-2 : tie.Need-returns-2
+returns-2 : tie.Need-returns
 returns-2 c =
     let s = searched c.before in
     let e = entered s in
-    (found_all (allowed e) s.search.ensures (tested e).prepare.ensures.1, found-bounded (allowed e) s.search.ensures)
+    (found_all (allowed e) s.search-r.ensures (tested e).prepare-refusal.ensures.1, found-bounded (allowed e) s.search-r.ensures)
 
 pub find_spec : {M : Type 1} → statement M
 find_spec =

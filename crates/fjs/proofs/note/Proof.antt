@@ -11,65 +11,65 @@ use Rattle.fjs_steps.proofs.Moves.{put-long}
 use Rattle.fjs.proofs.note.Statement.{statement}
 use Rattle.fjs.proofs.note.Tie as tie
 
-mul_at : tie.Need-overflow-mul-at
+mul_at : tie.Need-overflow_mul-at
 mul_at c = search rules
 
-add-if2 : tie.Need-overflow-add-if2
+add-if2 : tie.Need-overflow_add-at
 add-if2 c = search rules
 
-cast-moves : tie.Need-overflow-cast-moves
+cast-moves : tie.Need-overflow_cast-moves
 cast-moves c = search rules
 
-mul-moves : tie.Need-overflow-mul-moves
+mul-moves : tie.Need-offset_bounds-moves-at
 mul-moves c = search rules
 
-slice-write-moves : tie.Need-slice-write-moves
+slice-write-moves : tie.Need-bounds-moves-at
 slice-write-moves c = search rules
 
-cast-moves-2 : tie.Need-overflow-cast-moves-2
+cast-moves-2 : tie.Need-overflow_cast-moves-then-at-moves
 cast-moves-2 c = search rules
 
-add-moves : tie.Need-overflow-add-moves
+add-moves : tie.Need-overflow_add-moves
 add-moves c = search rules
 
-mul-moves-2 : tie.Need-overflow-mul-moves-2
+mul-moves-2 : tie.Need-offset_bounds-moves-at-then-at-moves
 mul-moves-2 c = search rules
 
-slice-write-moves-2 : tie.Need-slice-write-moves-2
-slice-write-moves-2 c = simp length-set (omega (arith, c.if2.true))
+slice-write-moves-2 : tie.Need-bounds-moves-at-then-at-moves
+slice-write-moves-2 c = simp length-set (omega (arith, c.if-at-moves.true))
 
-add-moves-2 : tie.Need-overflow-add-moves-2
+add-moves-2 : tie.Need-overflow_add-moves-then-at-moves
 add-moves-2 c = search rules
 
-mul-moves-3 : tie.Need-overflow-mul-moves-3
+mul-moves-3 : tie.Need-offset_bounds-moves-at-then-at-moves-2
 mul-moves-3 c = search rules
 
-slice-write-moves-3 : tie.Need-slice-write-moves-3
-slice-write-moves-3 c = simp length-set (omega (arith, c.if2.true))
+slice-write-moves-3 : tie.Need-bounds-moves-at-then-at-moves-2
+slice-write-moves-3 c = simp length-set (omega (arith, c.if-at-moves.true))
 
-add-result : tie.Need-overflow-add-result
+add-result : tie.Need-overflow_add-result
 add-result c = search rules
 
 -- the list after the three numbers were put, or not
-put : (c : tie.Joined2) → let a = c.before.before.args in c.if2.moves ≡ put_move a.moves.now a.index a.old a.new a.rule
+put : (c : tie.Joined-at-moves) → let a = c.args in c.if-at-moves.moves ≡ put_move a.moves.now a.index a.old a.new a.rule
 put c =
-    let a = c.before.before.args in
+    let a = c.args in
     ⊎_elim
-    (λ w. rw (le-leb (3 * a.index + 3) (length a.moves.now) w.0.taken) w.1)
-    (λ w. rw (lt-leb (3 * a.index + 3) (length a.moves.now) w.0.left) w.1)
-    c.if2.branch
+    (λ w. rw (le-leb (3 * a.index + 3) (length a.moves.now) w.if-at-moves.true) w.moves-is)
+    (λ w. rw (lt-leb (3 * a.index + 3) (length a.moves.now) w.if-at-moves.false) w.moves-is)
+    c.if-at-moves.branch-raw
 
-same_length : tie.Need-same-length
-same_length c = let a = c.before.before.args in ap length (put c) ∙ put-long a.moves.now a.index a.old a.new a.rule
+same_length : tie.Need-shape_of-moves-then-noting
+same_length c = let a = c.args in ap length (put c) ∙ put-long a.moves.now a.index a.old a.new a.rule
 
-returns : tie.Need-returns
-returns c = (rw c.before.if1.true, rw c.before.if1.true (put c))
+returns : tie.Need-returns-then-noting
+returns c = (rw c.if-noting.true, rw c.if-noting.true (put c))
 
-returns-2 : tie.Need-returns-2
-returns-2 c = (rw c.if1.false, rw c.if1.false)
+returns-2 : tie.Need-returns
+returns-2 c = (rw c.if-noting.false, rw c.if-noting.false)
 
-pub note-spec : {M : Type 1} → statement M
-note-spec =
+pub note_spec : {M : Type 1} → statement M
+note_spec =
     tie.close
     (tie.spec
     mul_at

@@ -13,46 +13,46 @@ use Rattle.border_tables.proofs.MaxShift.{border_tables-length}
 use Rattle.improved_fjs.proofs.make_tables.Statement.{statement}
 use Rattle.improved_fjs.proofs.make_tables.Tie as tie
 
-slice-relend-prefix-sunday-table : tie.Need-slice-relend-prefix-sunday-table
+slice-relend-prefix-sunday-table : tie.Need-slice_bounds-sunday_table-end
 slice-relend-prefix-sunday-table c = search rules
 
-slice-aggregate-sunday-table : tie.Need-slice-aggregate-sunday-table
-slice-aggregate-sunday-table c = sym (length-take-le 256 c.before.before.before.args.scratch.now (omega arith))
+slice-aggregate-sunday-table : tie.Need-slice_bounds-sunday_table-end-2
+slice-aggregate-sunday-table c = sym (length-take-le 256 c.args.scratch.now (omega arith))
 
-sunday-table-requires : tie.Need-sunday-table-requires
+sunday-table-requires : tie.Need-sunday_table-requires
 sunday-table-requires c κs = search rules
 
-sub-max-shift-table : tie.Need-overflow-sub-max-shift-table
+sub-max-shift-table : tie.Need-slice_bounds-max_shift_table-count
 sub-max-shift-table c = search rules
 
-part-max-shift-table-start : tie.Need-slice-bounds-max-shift-table-start
+part-max-shift-table-start : tie.Need-slice_bounds-max_shift_table-start
 part-max-shift-table-start c = search rules
 
-part-max-shift-table-end : tie.Need-slice-bounds-max-shift-table-end
+part-max-shift-table-end : tie.Need-slice_bounds-max_shift_table-end
 part-max-shift-table-end c = search rules
 
-max-shift-table-requires : tie.Need-max-shift-table-requires
+max-shift-table-requires : tie.Need-max_shift_table-requires
 max-shift-table-requires c κs = search rules
 
-same_length : tie.Need-same-length
+same_length : tie.Need-shape_of-scratch
 same_length c = search rules
 
 returns : tie.Need-returns
 returns c =
     let k = c.before.before in
     let d = k.before.before.before.before in
-    let a = d.before.before.before.before.args in
+    let a = d.args in
     let P = a.pattern.now in
     let m = length P in
     let size = border_tables-length P in (
-      k.max-shift-table.ensures.0 ∙ found-widest P (omega arith),
+      k.max_shift_table.ensures.0 ∙ found-widest P (omega arith),
       made-rest (m + 1) m 256 (sunday_entry P) (border_tables P) a.scratch.now (omega arith) (omega arith) (omega arith)
-          (made-front (m + 1) 256 (sunday_entry P) a.scratch.now (omega arith) (omega arith) d.sunday-table.ensures) k.max-shift-table.ensures.1
+          (made-front (m + 1) 256 (sunday_entry P) a.scratch.now (omega arith) (omega arith) d.sunday_table.ensures) k.max_shift_table.ensures.1
           ∙ sym (rest-received 256 (sunday_entry P) (border_tables P) a.scratch.now (omega arith)),
     )
 
-pub make-tables-spec : {M : Type 1} → statement M
-make-tables-spec =
+pub make_tables_spec : {M : Type 1} → statement M
+make_tables_spec =
     tie.close
     (tie.spec
     slice-relend-prefix-sunday-table

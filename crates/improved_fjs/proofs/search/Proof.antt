@@ -27,92 +27,92 @@ use Rattle.improved_fjs.proofs.Ready.{sundays, kmps, shifts, limits}
 use Rattle.improved_fjs.proofs.search.Statement.{statement}
 use Rattle.improved_fjs.proofs.search.Tie as tie
 
-abbrev invariant-loop2 : tie.invariant-loop2
-invariant-loop2 pattern text scratch gap list m n first total compared s q k₀ k = Upward pattern text s q m k
+abbrev invariant-loop-k : tie.invariant-loop-k
+invariant-loop-k pattern text scratch gap list m n first total compared s q k₀ k = Upward pattern text s q m k
 
-abbrev decreases-loop2 : tie.decreases-loop2
-decreases-loop2 pattern text scratch gap list m n first total compared s q k₀ k = m - k
+abbrev decreases-loop-k : tie.decreases-loop-k
+decreases-loop-k pattern text scratch gap list m n first total compared s q k₀ k = m - k
 
-abbrev invariant-loop : tie.invariant-loop
-invariant-loop pattern text scratch gap list₀ m n first total₀ compared₀ s₀ q₀ list total compared s q = Progress improved_fjs pattern text list₀ (at s q) total compared list × (s ≤ length text + 1)
+abbrev invariant-loop-s : tie.invariant-loop-s
+invariant-loop-s pattern text scratch gap list₀ m n first total₀ compared₀ s₀ q₀ list total compared s q = Progress improved_fjs pattern text list₀ (at s q) total compared list × (s ≤ length text + 1)
 
-abbrev decreases-loop : tie.decreases-loop
-decreases-loop pattern text scratch gap list₀ m n first total₀ compared₀ s₀ q₀ list total compared s q = length text + 1 - s
+abbrev decreases-loop-s : tie.decreases-loop-s
+decreases-loop-s pattern text scratch gap list₀ m n first total₀ compared₀ s₀ q₀ list total compared s q = length text + 1 - s
 
 -- the call, from the loop; its pattern and its text
-abbrev start : tie.At-loop invariant-loop2 decreases-loop2 invariant-loop decreases-loop → tie.Start invariant-loop2 decreases-loop2 invariant-loop decreases-loop
+abbrev start : tie.At-loop-s invariant-loop-k decreases-loop-k invariant-loop-s decreases-loop-s → tie.Start invariant-loop-k decreases-loop-k invariant-loop-s decreases-loop-s
 start l = l.before.before.before.before.before.before
 
-abbrev P : tie.At-loop invariant-loop2 decreases-loop2 invariant-loop decreases-loop → List ℕ
+abbrev P : tie.At-loop-s invariant-loop-k decreases-loop-k invariant-loop-s decreases-loop-s → List ℕ
 P l = (start l).args.pattern.now
 
-abbrev T : tie.At-loop invariant-loop2 decreases-loop2 invariant-loop decreases-loop → List ℕ
+abbrev T : tie.At-loop-s invariant-loop-k decreases-loop-k invariant-loop-s decreases-loop-s → List ℕ
 T l = (start l).args.text.now
 
 -- the loop, from the inner loop; the inner loop, from where a window is done; the loop, from where the letter after the window is read
-abbrev outer : tie.At-loop2 invariant-loop2 decreases-loop2 invariant-loop decreases-loop → tie.At-loop invariant-loop2 decreases-loop2 invariant-loop decreases-loop
+abbrev outer : tie.At-loop-k invariant-loop-k decreases-loop-k invariant-loop-s decreases-loop-s → tie.At-loop-s invariant-loop-k decreases-loop-k invariant-loop-s decreases-loop-s
 outer i = i.before.before.before
 
-abbrev inner : tie.Joined5 invariant-loop2 decreases-loop2 invariant-loop decreases-loop → tie.At-loop2 invariant-loop2 decreases-loop2 invariant-loop decreases-loop
+abbrev inner : tie.Joined-k-m invariant-loop-k decreases-loop-k invariant-loop-s decreases-loop-s → tie.At-loop-k invariant-loop-k decreases-loop-k invariant-loop-s decreases-loop-s
 inner j = j.before.before.before
 
-abbrev jumping : tie.After-shared-slice-known6 invariant-loop2 decreases-loop2 invariant-loop decreases-loop → tie.At-loop invariant-loop2 decreases-loop2 invariant-loop decreases-loop
+abbrev jumping : tie.After-shared_slice_known-then-first-text-1 invariant-loop-k decreases-loop-k invariant-loop-s decreases-loop-s → tie.At-loop-s invariant-loop-k decreases-loop-k invariant-loop-s decreases-loop-s
 jumping c = c.before.before.before.before.before.before
 
 -- the window lies in the text, and letter mdp in the window
-within : (i : tie.In-loop invariant-loop2 decreases-loop2 invariant-loop decreases-loop) → let l = i.before in l.loop.s + length (P l) ≤ length (T l)
-within i = omega (arith, i.loop-test.true)
+within : (i : tie.In-loop-s invariant-loop-k decreases-loop-k invariant-loop-s decreases-loop-s) → let l = i.before in l.loop-s.s + length (P l) ≤ length (T l)
+within i = omega (arith, i.loop-s-test.true)
 
-widest : (l : tie.At-loop invariant-loop2 decreases-loop2 invariant-loop decreases-loop) → (start l).args.gap < length (P l)
+widest : (l : tie.At-loop-s invariant-loop-k decreases-loop-k invariant-loop-s decreases-loop-s) → (start l).args.gap < length (P l)
 widest l = omega (arith, (start l).requires.gap, gap-inside (P l) (start l).requires.some)
 
 -- letter mdp, as the code compares it
-as-gap : (l : tie.At-loop invariant-loop2 decreases-loop2 invariant-loop decreases-loop) → Equal (P l) (T l) l.loop.s → get_or (P l) (start l).args.gap 0 ≡ get_or (T l) (l.loop.s + (start l).args.gap) 0
+as-gap : (l : tie.At-loop-s invariant-loop-k decreases-loop-k invariant-loop-s decreases-loop-s) → Equal (P l) (T l) l.loop-s.s → get_or (P l) (start l).args.gap 0 ≡ get_or (T l) (l.loop-s.s + (start l).args.gap) 0
 as-gap l e = at_same (P l) (start l).requires.gap ∙ e ∙ at_same (T l) (omega (arith, (start l).requires.gap))
 
-is-gap : (l : tie.At-loop invariant-loop2 decreases-loop2 invariant-loop decreases-loop) → get_or (P l) (start l).args.gap 0 ≡ get_or (T l) (l.loop.s + (start l).args.gap) 0 → Equal (P l) (T l) l.loop.s
+is-gap : (l : tie.At-loop-s invariant-loop-k decreases-loop-k invariant-loop-s decreases-loop-s) → get_or (P l) (start l).args.gap 0 ≡ get_or (T l) (l.loop-s.s + (start l).args.gap) 0 → Equal (P l) (T l) l.loop-s.s
 is-gap l e = at_same (P l) (omega (arith, (start l).requires.gap)) ∙ e ∙ at_same (T l) (omega (arith, (start l).requires.gap))
 
 -- the comparing left to right begins
-begun : (j : tie.Joined1 invariant-loop2 decreases-loop2 invariant-loop decreases-loop) → let l = j.before.before in Begun l.loop.invariant.0 (within j.before) j.if1.compared
+begun : (j : tie.Joined-q-eq0 invariant-loop-k decreases-loop-k invariant-loop-s decreases-loop-s) → let l = j.before.before in Begun l.loop-s.invariant.0 (within j.before) j.if-q-eq0.compared
 begun j =
     let l = j.before.before in
     ⊎_elim
-    (λ w. record { fresh = λ _. (is-gap l w.2.left, omega (arith, w.3)); carried = λ h. absurd (omega (arith, w.0.taken)); few = omega (arith, w.3) })
-    (λ w. record { fresh = λ z. absurd (w.0.left z); carried = λ _. w.1; few = omega (arith, w.1) })
-    j.if1.branch
+    (λ w. record { fresh = λ _. (is-gap l w.if-first-text.false, omega (arith, w.compared-is)); carried = λ h. absurd (omega (arith, w.if-q-eq0.true)); few = omega (arith, w.compared-is) })
+    (λ w. record { fresh = λ z. absurd (w.if-q-eq0.false z); carried = λ _. w.compared-is; few = omega (arith, w.compared-is) })
+    j.if-q-eq0.branch-raw
 
 -- the inner loop left before its end: the letters differ
-differs : (d : tie.Left-loop2 invariant-loop2 decreases-loop2 invariant-loop decreases-loop) → let i = d.before in let l = outer i in i.loop2.k < length (P l) → get_or (P l) i.loop2.k 0 ≡ get_or (T l) (l.loop.s + i.loop2.k) 0 → ⊥
-differs d h = ⊎_elim (λ w. absurd (omega (arith, w.left))) (λ w. w.3.taken) d.loop2-test.branch
+differs : (d : tie.Left-loop-k invariant-loop-k decreases-loop-k invariant-loop-s decreases-loop-s) → let i = d.before in let l = outer i in i.loop-k.k < length (P l) → get_or (P l) i.loop-k.k 0 ≡ get_or (T l) (l.loop-s.s + i.loop-k.k) 0 → ⊥
+differs d h = ⊎_elim (λ w. absurd (omega (arith, w.loop-k-test.false))) (λ w. w.if-pattern-k.true) d.loop-k-test.branch-raw
 
 -- one window done, whether it reports or not
-stepped : (j : tie.Joined5 invariant-loop2 decreases-loop2 invariant-loop decreases-loop)
-    → let i = j.before.before.before in let l = outer i in Done (P l) (T l) (start l).args.list.now l.loop.s l.loop.q i.loop2.k j.if5.total j.if5.compared j.if5.list
+stepped : (j : tie.Joined-k-m invariant-loop-k decreases-loop-k invariant-loop-s decreases-loop-s)
+    → let i = j.before.before.before in let l = outer i in Done (P l) (T l) (start l).args.list.now l.loop-s.s l.loop-s.q i.loop-k.k j.if-k-m.total j.if-k-m.compared j.if-k-m.list
 stepped j =
     let i = j.before.before.before in
-    let p = (outer i).loop.invariant.0 in
+    let p = (outer i).loop-s.invariant.0 in
     let h = within i.before.before in
     let g = begun i.before in
     ⊎_elim
-    (λ w. let part = w.0.taken in rw (w.1, w.2, w.3) (miss p h g i.loop2.invariant part (differs j.before.before part) refl))
-    (λ w. rw (w.5, w.6, w.7, w.2.ensures) (hit p h g i.loop2.invariant w.0.left refl))
-    j.if5.branch
+    (λ w. let part = w.if-k-m.true in rw (w.list-is, w.total-is, w.compared-is) (miss p h g i.loop-k.invariant part (differs j.before.before part) refl))
+    (λ w. rw (w.list-is, w.total-is, w.compared-is, w.store.ensures) (hit p h g i.loop-k.invariant w.if-k-m.false refl))
+    j.if-k-m.branch-raw
 
 -- the entries that the moves read: the letter after the window's, MAX_Shift's, and KMP's
-byte : (c : tie.After-shared-slice-known6 invariant-loop2 decreases-loop2 invariant-loop decreases-loop) → let l = jumping c in get_or (T l) (l.loop.s + length (P l)) 0 < 256
-byte c = let l = jumping c in omega (arith, c.shared-slice-known6.given (l.loop.s + length (P l)))
+byte : (c : tie.After-shared_slice_known-then-first-text-1 invariant-loop-k decreases-loop-k invariant-loop-s decreases-loop-s) → let l = jumping c in get_or (T l) (l.loop-s.s + length (P l)) 0 < 256
+byte c = let l = jumping c in omega (arith, c.shared_slice_known-then-first-text-1.given (l.loop-s.s + length (P l)))
 
-jumped : (c : tie.After-shared-slice-known7 invariant-loop2 decreases-loop2 invariant-loop decreases-loop)
-    → let l = jumping c.before in let u = get_or (T l) (l.loop.s + length (P l)) 0 in Reads (get_or (start l).args.scratch.now u 0) (sunday_entry (P l) u) 1 (length (P l) + 1)
-jumped c = let l = jumping c.before in sunday-reads (P l) (get_or (T l) (l.loop.s + length (P l)) 0) (sundays (start l).pre) (byte c.before)
+jumped : (c : tie.After-shared_slice_known-then-first-text-2-1 invariant-loop-k decreases-loop-k invariant-loop-s decreases-loop-s)
+    → let l = jumping c.before in let u = get_or (T l) (l.loop-s.s + length (P l)) 0 in Reads (get_or (start l).args.scratch.now u 0) (sunday_entry (P l) u) 1 (length (P l) + 1)
+jumped c = let l = jumping c.before in sunday-reads (P l) (get_or (T l) (l.loop-s.s + length (P l)) 0) (sundays (start l).requires) (byte c.before)
 
-by-gap : (j : tie.Joined5 invariant-loop2 decreases-loop2 invariant-loop decreases-loop)
-    → let i = inner j in let l = outer i in Reads (get_or (start l).args.scratch.now (256 + (length (P l) + 1) + i.loop2.k) 0) (max_shift (P l) i.loop2.k) 1 (length (P l))
-by-gap j = let l = outer (inner j) in max-reads (P l) (start l).pre.some (shifts (start l).pre) (stepped j).few refl
+by-gap : (j : tie.Joined-k-m invariant-loop-k decreases-loop-k invariant-loop-s decreases-loop-s)
+    → let i = inner j in let l = outer i in Reads (get_or (start l).args.scratch.now (256 + (length (P l) + 1) + i.loop-k.k) 0) (max_shift (P l) i.loop-k.k) 1 (length (P l))
+by-gap j = let l = outer (inner j) in max-reads (P l) (start l).requires.some (shifts (start l).requires) (stepped j).few refl
 
-by-border : (j : tie.Joined5 invariant-loop2 decreases-loop2 invariant-loop decreases-loop) → let i = inner j in let l = outer i in Reads (get_or (start l).args.scratch.now (256 + i.loop2.k) 0) (kmp_entry (P l) i.loop2.k) 0 i.loop2.k
-by-border j = let l = outer (inner j) in kmp-reads (P l) (kmps (start l).pre) (stepped j).few refl
+by-border : (j : tie.Joined-k-m invariant-loop-k decreases-loop-k invariant-loop-s decreases-loop-s) → let i = inner j in let l = outer i in Reads (get_or (start l).args.scratch.now (256 + i.loop-k.k) 0) (kmp_entry (P l) i.loop-k.k) 0 i.loop-k.k
+by-border j = let l = outer (inner j) in kmp-reads (P l) (kmps (start l).requires) (stepped j).few refl
 
 -- the window moved on by what was read, whichever it was
 record Moved (P T list₀ : List ℕ) (s k d total compared : ℕ) (list : List ℕ) : Type 0 where
@@ -120,8 +120,8 @@ record Moved (P T list₀ : List ℕ) (s k d total compared : ℕ) (list : List 
   ahead : 1 ≤ d
   fits : d ≤ length P + 1
 
-moved : (g : tie.Joined6 invariant-loop2 decreases-loop2 invariant-loop decreases-loop) → let j = g.before in let i = j.before.before.before in let l = outer i in
-    Moved (P l) (T l) (start l).args.list.now l.loop.s i.loop2.k g.if6.shift j.if5.total j.if5.compared j.if5.list
+moved : (g : tie.Joined-q-gt0 invariant-loop-k decreases-loop-k invariant-loop-s decreases-loop-s) → let j = g.before in let i = j.before.before.before in let l = outer i in
+    Moved (P l) (T l) (start l).args.list.now l.loop-s.s i.loop-k.k g.if-q-gt0.shift j.if-k-m.total j.if-k-m.compared j.if-k-m.list
 moved g =
     let j = g.before in
     let i = inner j in
@@ -130,195 +130,195 @@ moved g =
     ⊎_elim
     (λ w.
     let r = by-border j in
-    rw w.2
+    rw w.shift-is
     (record {
-      progress = λ e. kmp-goes l.loop.s i.loop2.k (d.carried (omega (arith, w.0.taken))) r (omega (arith, r.most, e));
+      progress = λ e. kmp-goes l.loop-s.s i.loop-k.k (d.carried (omega (arith, w.if-q-gt0.true))) r (omega (arith, r.most, e));
       ahead = omega (arith, r.most);
       fits = omega (arith, d.few);
     }))
     (λ w.
     let r = by-gap j in
-    rw w.2 (record { progress = λ e. max-goes l.loop.s i.loop2.k (d.fresh (omega (arith, w.0.left))) r e; ahead = r.least; fits = omega (arith, r.most) }))
-    g.if6.branch
+    rw w.shift-is (record { progress = λ e. max-goes l.loop-s.s i.loop-k.k (d.fresh (omega (arith, w.if-q-gt0.false))) r e; ahead = r.least; fits = omega (arith, r.most) }))
+    g.if-q-gt0.branch-raw
 
 -- the search is over: its total and its comparisons, and the lent list
-over : (d : tie.Left-loop invariant-loop2 decreases-loop2 invariant-loop decreases-loop) → let l = d.before in Over improved_fjs (P l) (T l) (start l).args.list.now l.loop.total d.loop-test.compared l.loop.list
+over : (d : tie.Left-loop-s invariant-loop-k decreases-loop-k invariant-loop-s decreases-loop-s) → let l = d.before in Over improved_fjs (P l) (T l) (start l).args.list.now l.loop-s.total d.loop-s-test.compared l.loop-s.list
 over d =
     let l = d.before in
     ⊎_elim
-    (λ w. rw w.1 (past l.loop.invariant.0 (omega (arith, w.0.left))))
+    (λ w. rw w.compared-is (past l.loop-s.invariant.0 (omega (arith, w.loop-s-test.false))))
     (λ w.
-    let i : tie.In-loop invariant-loop2 decreases-loop2 invariant-loop decreases-loop = record { before = l; loop-test = w.0 } in
-    rw w.5 (sunday-over l.loop.s (gap-differs l.loop.invariant.0 (within i) w.1.taken (λ e. w.3.taken (as-gap l e))) (omega (arith, w.4.taken))))
-    d.loop-test.branch
+    let i : tie.In-loop-s invariant-loop-k decreases-loop-k invariant-loop-s decreases-loop-s = record { before = l; loop-s-test = w.loop-s-test } in
+    rw w.compared-is (sunday-over l.loop-s.s (gap-differs l.loop-s.invariant.0 (within i) w.if-q-eq0.true (λ e. w.if-first-text.true (as-gap l e))) (omega (arith, w.if-n-s.true))))
+    d.loop-s-test.branch-raw
 
-shared-slice-read-first : tie.Need-shared-slice-read-first invariant-loop2 decreases-loop2 invariant-loop decreases-loop
+shared-slice-read-first : tie.Need-bounds-pattern-gap invariant-loop-k decreases-loop-k invariant-loop-s decreases-loop-s
 shared-slice-read-first c = let st = c.before.before.before.before.before in omega (arith, st.requires.gap, gap-inside st.args.pattern.now st.requires.some)
 
-loop-holds : tie.Need-loop-init invariant-loop2 decreases-loop2 invariant-loop decreases-loop
+loop-holds : tie.Need-loop-s-init invariant-loop-k decreases-loop-k invariant-loop-s decreases-loop-s
 loop-holds c = let st = c.before.before.before.before.before in (begins (limits st.requires) (sound st.args.pattern.now st.args.text.now), omega arith)
 
-add-loop : tie.Need-overflow-add-loop invariant-loop2 decreases-loop2 invariant-loop decreases-loop
-add-loop c = omega (arith, c.loop.invariant.0.short, c.loop.invariant.0.small)
+add-loop : tie.Need-overflow_add-s invariant-loop-k decreases-loop-k invariant-loop-s decreases-loop-s
+add-loop c = omega (arith, c.loop-s.invariant.0.short, c.loop-s.invariant.0.small)
 
-add-compared : tie.Need-overflow-add-compared invariant-loop2 decreases-loop2 invariant-loop decreases-loop
-add-compared c = omega (arith, compared-small c.before.before.loop.invariant.0)
+add-compared : tie.Need-overflow_add-compared invariant-loop-k decreases-loop-k invariant-loop-s decreases-loop-s
+add-compared c = omega (arith, compared-small c.loop-s.invariant.0)
 
-add-if2 : tie.Need-overflow-add-if2 invariant-loop2 decreases-loop2 invariant-loop decreases-loop
-add-if2 c = let l = c.before.before in omega (arith, widest l, l.loop.invariant.0.short, l.loop.invariant.0.small)
+add-if2 : tie.Need-overflow_add-s-then-q-eq0 invariant-loop-k decreases-loop-k invariant-loop-s decreases-loop-s
+add-if2 c = let l = c.before.before in omega (arith, widest l, l.loop-s.invariant.0.short, l.loop-s.invariant.0.small)
 
-shared-slice-read-if2 : tie.Need-shared-slice-read-if2 invariant-loop2 decreases-loop2 invariant-loop decreases-loop
+shared-slice-read-if2 : tie.Need-bounds-text-s invariant-loop-k decreases-loop-k invariant-loop-s decreases-loop-s
 shared-slice-read-if2 c = omega (arith, widest c.before.before.before, within c.before.before)
 
-add-if3 : tie.Need-overflow-add-if3 invariant-loop2 decreases-loop2 invariant-loop decreases-loop
-add-if3 c = let p = c.before.before.before.before.loop.invariant.0 in omega (arith, p.short, p.small)
+add-if3 : tie.Need-overflow_add-s-then-first-text invariant-loop-k decreases-loop-k invariant-loop-s decreases-loop-s
+add-if3 c = let p = c.loop-s.invariant.0 in omega (arith, p.short, p.small)
 
-add-s : tie.Need-overflow-add-s invariant-loop2 decreases-loop2 invariant-loop decreases-loop
-add-s c = let p = c.before.before.before.before.before.loop.invariant.0 in omega (arith, p.short, p.small)
+add-s : tie.Need-overflow_add-s-then-first-text-2 invariant-loop-k decreases-loop-k invariant-loop-s decreases-loop-s
+add-s c = let p = c.loop-s.invariant.0 in omega (arith, p.short, p.small)
 
-shared-slice-read-s : tie.Need-shared-slice-read-s invariant-loop2 decreases-loop2 invariant-loop decreases-loop
+shared-slice-read-s : tie.Need-bounds-text-s-then-first-text invariant-loop-k decreases-loop-k invariant-loop-s decreases-loop-s
 shared-slice-read-s c = omega arith
 
-cast-s : tie.Need-overflow-cast-s invariant-loop2 decreases-loop2 invariant-loop decreases-loop
+cast-s : tie.Need-overflow_cast-s invariant-loop-k decreases-loop-k invariant-loop-s decreases-loop-s
 cast-s c = omega (arith, byte c)
 
-mul-s : tie.Need-overflow-mul-s invariant-loop2 decreases-loop2 invariant-loop decreases-loop
+mul-s : tie.Need-offset_bounds-scratch-text invariant-loop-k decreases-loop-k invariant-loop-s decreases-loop-s
 mul-s c = omega (arith, byte c)
 
-shared-slice-read-s-2 : tie.Need-shared-slice-read-s-2 invariant-loop2 decreases-loop2 invariant-loop decreases-loop
-shared-slice-read-s-2 c = omega (arith, byte c.before, (sundays (start (jumping c.before)).pre).room)
+shared-slice-read-s-2 : tie.Need-bounds-scratch-text invariant-loop-k decreases-loop-k invariant-loop-s decreases-loop-s
+shared-slice-read-s-2 c = omega (arith, byte c.before, (sundays (start (jumping c.before)).requires).room)
 
-cast-s-2 : tie.Need-overflow-cast-s-2 invariant-loop2 decreases-loop2 invariant-loop decreases-loop
-cast-s-2 c = omega (arith, (jumped c).most, (jumping c.before).loop.inv.0.short)
+cast-s-2 : tie.Need-overflow_cast-s-then-first-text invariant-loop-k decreases-loop-k invariant-loop-s decreases-loop-s
+cast-s-2 c = omega (arith, (jumped c).most, (jumping c.before).loop-s.invariant.0.short)
 
-add-s-2 : tie.Need-overflow-add-s-2 invariant-loop2 decreases-loop2 invariant-loop decreases-loop
-add-s-2 c = let p = (jumping c.before).loop.inv.0 in omega (arith, (jumped c).most, p.short, p.small)
+add-s-2 : tie.Need-overflow_add-s-then-first-text-3 invariant-loop-k decreases-loop-k invariant-loop-s decreases-loop-s
+add-s-2 c = let p = (jumping c.before).loop-s.invariant.0 in omega (arith, (jumped c).most, p.short, p.small)
 
-loop-less : tie.Need-loop-smaller invariant-loop2 decreases-loop2 invariant-loop decreases-loop
+loop-less : tie.Need-loop-s-smaller-then-first-text invariant-loop-k decreases-loop-k invariant-loop-s decreases-loop-s
 loop-less c = omega (arith, (jumped c).least)
 
-loop-again : tie.Need-loop-preserved invariant-loop2 decreases-loop2 invariant-loop decreases-loop
+loop-again : tie.Need-loop-s-preserved-then-first-text invariant-loop-k decreases-loop-k invariant-loop-s decreases-loop-s
 loop-again c =
     let l = jumping c.before in
     let j = jumped c in
     let i = c.before.before.before.before.before.before in
-    let zero = c.before.before.before.before.before.if1.true in
-    let p = gap-differs l.loop.inv.0 (within i) zero (λ e. c.before.before.before.if2.true (as-gap l e)) in
-    (rw zero (sunday-goes l.loop.s p (omega arith) j), omega (arith, j.most))
+    let zero = c.if-q-eq0.true in
+    let p = gap-differs l.loop-s.invariant.0 (within i) zero (λ e. c.if-first-text.true (as-gap l e)) in
+    (rw zero (sunday-goes l.loop-s.s p (omega arith) j), omega (arith, j.most))
 
-loop2-holds : tie.Need-loop2-init invariant-loop2 decreases-loop2 invariant-loop decreases-loop
-loop2-holds c = let p = c.before.before.loop.invariant.0 in up_none refl (omega (arith, p.carried.part))
+loop2-holds : tie.Need-loop-k-init invariant-loop-k decreases-loop-k invariant-loop-s decreases-loop-s
+loop2-holds c = let p = c.loop-s.invariant.0 in up_none refl (omega (arith, p.carried.part))
 
-shared-slice-read-if4 : tie.Need-shared-slice-read-if4 invariant-loop2 decreases-loop2 invariant-loop decreases-loop
+shared-slice-read-if4 : tie.Need-bounds-pattern-k invariant-loop-k decreases-loop-k invariant-loop-s decreases-loop-s
 shared-slice-read-if4 c = omega arith
 
-add-if4 : tie.Need-overflow-add-if4 invariant-loop2 decreases-loop2 invariant-loop decreases-loop
-add-if4 c = let p = c.before.before.before.before.before.loop.invariant.0 in omega (arith, p.short, p.small)
+add-if4 : tie.Need-overflow_add-s-in-loop-k invariant-loop-k decreases-loop-k invariant-loop-s decreases-loop-s
+add-if4 c = let p = c.loop-s.invariant.0 in omega (arith, p.short, p.small)
 
-shared-slice-read-if4-2 : tie.Need-shared-slice-read-if4-2 invariant-loop2 decreases-loop2 invariant-loop decreases-loop
+shared-slice-read-if4-2 : tie.Need-bounds-text-s-in-loop-k invariant-loop-k decreases-loop-k invariant-loop-s decreases-loop-s
 shared-slice-read-if4-2 c = omega (arith, within c.before.before.before.before.before)
 
-add-k : tie.Need-overflow-add-k invariant-loop2 decreases-loop2 invariant-loop decreases-loop
+add-k : tie.Need-overflow_add-k invariant-loop-k decreases-loop-k invariant-loop-s decreases-loop-s
 add-k c = omega arith
 
-loop2-less : tie.Need-loop2-smaller invariant-loop2 decreases-loop2 invariant-loop decreases-loop
+loop2-less : tie.Need-loop-k-smaller invariant-loop-k decreases-loop-k invariant-loop-s decreases-loop-s
 loop2-less c = omega arith
 
-loop2-again : tie.Need-loop2-preserved invariant-loop2 decreases-loop2 invariant-loop decreases-loop
-loop2-again c = let i = c.before.before.before.before in up_next i.loop2.invariant (within i.before.before) (omega arith) (omega arith) c.if4.false
+loop2-again : tie.Need-loop-k-preserved invariant-loop-k decreases-loop-k invariant-loop-s decreases-loop-s
+loop2-again c = let i = c.before.before.before.before in up_next i.loop-k.invariant (within i.before.before) (omega arith) (omega arith) c.if-pattern-k.false
 
-sub-compared : tie.Need-overflow-sub-compared invariant-loop2 decreases-loop2 invariant-loop decreases-loop
-sub-compared c = omega (arith, c.before.loop2.invariant.from)
+sub-compared : tie.Need-overflow_sub-compared invariant-loop-k decreases-loop-k invariant-loop-s decreases-loop-s
+sub-compared c = omega (arith, c.loop-k.invariant.from)
 
-add-compared-2 : tie.Need-overflow-add-compared-2 invariant-loop2 decreases-loop2 invariant-loop decreases-loop
-add-compared-2 c = let i = c.before.before in let p = (outer i).loop.invariant.0 in omega (arith, compared-small p, p.short, (begun i.before).few, i.loop2.invariant.upto)
+add-compared-2 : tie.Need-overflow_add-compared-in-loop-s invariant-loop-k decreases-loop-k invariant-loop-s decreases-loop-s
+add-compared-2 c = let i = c.before.before in let p = (outer i).loop-s.invariant.0 in omega (arith, compared-small p, p.short, (begun i.before).few, i.loop-k.invariant.upto)
 
-add-compared-3 : tie.Need-overflow-add-compared-3 invariant-loop2 decreases-loop2 invariant-loop decreases-loop
-add-compared-3 c = let i = c.before.before.before in let p = (outer i).loop.invariant.0 in omega (arith, compared-small p, p.short, (begun i.before).few, i.loop2.invariant.upto)
+add-compared-3 : tie.Need-overflow_add-compared-then-k-m invariant-loop-k decreases-loop-k invariant-loop-s decreases-loop-s
+add-compared-3 c = let i = c.before.before.before in let p = (outer i).loop-s.invariant.0 in omega (arith, compared-small p, p.short, (begun i.before).few, i.loop-k.invariant.upto)
 
-cast-store : tie.Need-overflow-cast-store invariant-loop2 decreases-loop2 invariant-loop decreases-loop
-cast-store c = omega (arith, (outer c.before.before.before.before).loop.inv.0.small)
+cast-store : tie.Need-overflow_cast-s-else-k-m invariant-loop-k decreases-loop-k invariant-loop-s decreases-loop-s
+cast-store c = omega (arith, (outer c.before.before.before.before).loop-s.invariant.0.small)
 
-store-requires : tie.Need-store-requires invariant-loop2 decreases-loop2 invariant-loop decreases-loop
+store-requires : tie.Need-store-requires invariant-loop-k decreases-loop-k invariant-loop-s decreases-loop-s
 store-requires c κs = tt
 
-add_total : tie.Need-overflow-add-total invariant-loop2 decreases-loop2 invariant-loop decreases-loop
-add_total c = omega (arith, total-small (outer c.before.before.before.before.before.before.before).loop.inv.0)
+add_total : tie.Need-overflow_add-total invariant-loop-k decreases-loop-k invariant-loop-s decreases-loop-s
+add_total c = omega (arith, total-small (outer c.before.before.before.before.before.before.before).loop-s.invariant.0)
 
-add-shift : tie.Need-overflow-add-shift invariant-loop2 decreases-loop2 invariant-loop decreases-loop
-add-shift c = let j = c.before in omega (arith, (stepped j).few, (outer (inner j)).loop.inv.0.short)
+add-shift : tie.Need-overflow_add-shift invariant-loop-k decreases-loop-k invariant-loop-s decreases-loop-s
+add-shift c = let j = c.before in omega (arith, (stepped j).few, (outer (inner j)).loop-s.invariant.0.short)
 
-add-shift-2 : tie.Need-overflow-add-shift-2 invariant-loop2 decreases-loop2 invariant-loop decreases-loop
-add-shift-2 c = let j = c.before in omega (arith, (stepped j).few, (outer (inner j)).loop.inv.0.short)
+add-shift-2 : tie.Need-overflow_add-shift-then-q-gt0 invariant-loop-k decreases-loop-k invariant-loop-s decreases-loop-s
+add-shift-2 c = let j = c.before in omega (arith, (stepped j).few, (outer (inner j)).loop-s.invariant.0.short)
 
-mul-shift : tie.Need-overflow-mul-shift invariant-loop2 decreases-loop2 invariant-loop decreases-loop
-mul-shift c = let j = c.before in omega (arith, (stepped j).few, (outer (inner j)).loop.inv.0.short)
+mul-shift : tie.Need-offset_bounds-scratch-k invariant-loop-k decreases-loop-k invariant-loop-s decreases-loop-s
+mul-shift c = let j = c.before in omega (arith, (stepped j).few, (outer (inner j)).loop-s.invariant.0.short)
 
-shared-slice-read-shift : tie.Need-shared-slice-read-shift invariant-loop2 decreases-loop2 invariant-loop decreases-loop
-shared-slice-read-shift c = let j = c.before.before in omega (arith, (stepped j).few, (kmps (start (outer (inner j))).pre).room)
+shared-slice-read-shift : tie.Need-bounds-scratch-k invariant-loop-k decreases-loop-k invariant-loop-s decreases-loop-s
+shared-slice-read-shift c = let j = c.before.before in omega (arith, (stepped j).few, (kmps (start (outer (inner j))).requires).room)
 
-cast-shift : tie.Need-overflow-cast-shift invariant-loop2 decreases-loop2 invariant-loop decreases-loop
-cast-shift c = let j = c.before.before in omega (arith, (by-border j).most, (stepped j).few, (outer (inner j)).loop.inv.0.short)
+cast-shift : tie.Need-overflow_cast-shift invariant-loop-k decreases-loop-k invariant-loop-s decreases-loop-s
+cast-shift c = let j = c.before.before in omega (arith, (by-border j).most, (stepped j).few, (outer (inner j)).loop-s.invariant.0.short)
 
-sub-shift : tie.Need-overflow-sub-shift invariant-loop2 decreases-loop2 invariant-loop decreases-loop
+sub-shift : tie.Need-overflow_sub-shift invariant-loop-k decreases-loop-k invariant-loop-s decreases-loop-s
 sub-shift c = let j = c.before.before in omega (arith, (by-border j).most)
 
-add-shift-3 : tie.Need-overflow-add-shift-3 invariant-loop2 decreases-loop2 invariant-loop decreases-loop
-add-shift-3 c = let j = c.before in omega (arith, (stepped j).few, (outer (inner j)).loop.inv.0.short)
+add-shift-3 : tie.Need-overflow_add-shift-else-q-gt0 invariant-loop-k decreases-loop-k invariant-loop-s decreases-loop-s
+add-shift-3 c = let j = c.before in omega (arith, (stepped j).few, (outer (inner j)).loop-s.invariant.0.short)
 
-add-shift-4 : tie.Need-overflow-add-shift-4 invariant-loop2 decreases-loop2 invariant-loop decreases-loop
-add-shift-4 c = let j = c.before in omega (arith, (stepped j).few, (outer (inner j)).loop.inv.0.short)
+add-shift-4 : tie.Need-overflow_add-shift-else-q-gt0-2 invariant-loop-k decreases-loop-k invariant-loop-s decreases-loop-s
+add-shift-4 c = let j = c.before in omega (arith, (stepped j).few, (outer (inner j)).loop-s.invariant.0.short)
 
-add-shift-5 : tie.Need-overflow-add-shift-5 invariant-loop2 decreases-loop2 invariant-loop decreases-loop
-add-shift-5 c = let j = c.before in omega (arith, (stepped j).few, (outer (inner j)).loop.inv.0.short)
+add-shift-5 : tie.Need-overflow_add-shift-else-q-gt0-3 invariant-loop-k decreases-loop-k invariant-loop-s decreases-loop-s
+add-shift-5 c = let j = c.before in omega (arith, (stepped j).few, (outer (inner j)).loop-s.invariant.0.short)
 
-mul-shift-2 : tie.Need-overflow-mul-shift-2 invariant-loop2 decreases-loop2 invariant-loop decreases-loop
-mul-shift-2 c = let j = c.before in omega (arith, (stepped j).few, (outer (inner j)).loop.inv.0.short)
+mul-shift-2 : tie.Need-offset_bounds-scratch-m invariant-loop-k decreases-loop-k invariant-loop-s decreases-loop-s
+mul-shift-2 c = let j = c.before in omega (arith, (stepped j).few, (outer (inner j)).loop-s.invariant.0.short)
 
-shared-slice-read-shift-2 : tie.Need-shared-slice-read-shift-2 invariant-loop2 decreases-loop2 invariant-loop decreases-loop
-shared-slice-read-shift-2 c = let j = c.before.before in omega (arith, (stepped j).few, (shifts (start (outer (inner j))).pre).room)
+shared-slice-read-shift-2 : tie.Need-bounds-scratch-m invariant-loop-k decreases-loop-k invariant-loop-s decreases-loop-s
+shared-slice-read-shift-2 c = let j = c.before.before in omega (arith, (stepped j).few, (shifts (start (outer (inner j))).requires).room)
 
-cast-shift-2 : tie.Need-overflow-cast-shift-2 invariant-loop2 decreases-loop2 invariant-loop decreases-loop
-cast-shift-2 c = let j = c.before.before in omega (arith, (by-gap j).most, (outer (inner j)).loop.inv.0.short)
+cast-shift-2 : tie.Need-overflow_cast-shift-else-q-gt0 invariant-loop-k decreases-loop-k invariant-loop-s decreases-loop-s
+cast-shift-2 c = let j = c.before.before in omega (arith, (by-gap j).most, (outer (inner j)).loop-s.invariant.0.short)
 
-add-s-3 : tie.Need-overflow-add-s-3 invariant-loop2 decreases-loop2 invariant-loop decreases-loop
-add-s-3 c = let g = c.before in let p = (outer (inner g.before)).loop.inv.0 in omega (arith, (moved g).ranges, p.short, p.small)
+add-s-3 : tie.Need-overflow_add-s-in-loop-s invariant-loop-k decreases-loop-k invariant-loop-s decreases-loop-s
+add-s-3 c = let g = c.before in let p = (outer (inner g.before)).loop-s.invariant.0 in omega (arith, (moved g).fits, p.short, p.small)
 
-sub-q : tie.Need-overflow-sub-q invariant-loop2 decreases-loop2 invariant-loop decreases-loop
+sub-q : tie.Need-overflow_sub-q invariant-loop-k decreases-loop-k invariant-loop-s decreases-loop-s
 sub-q c = omega arith
 
-loop-less-2 : tie.Need-loop-smaller-2 invariant-loop2 decreases-loop2 invariant-loop decreases-loop
+loop-less-2 : tie.Need-loop-s-smaller-then-shift-k invariant-loop-k decreases-loop-k invariant-loop-s decreases-loop-s
 loop-less-2 c = omega (arith, (moved c.before.before).ahead)
 
-loop-again-2 : tie.Need-loop-preserved-2 invariant-loop2 decreases-loop2 invariant-loop decreases-loop
-loop-again-2 c = let g = c.before.before in let m = moved g in (m.progress (omega (arith, c.if7.true)), omega (arith, m.fits, within (inner g.before).before.before))
+loop-again-2 : tie.Need-loop-s-preserved-then-shift-k invariant-loop-k decreases-loop-k invariant-loop-s decreases-loop-s
+loop-again-2 c = let g = c.before.before in let m = moved g in (m.progress (omega (arith, c.if-shift-k.true)), omega (arith, m.fits, within (inner g.before).before.before))
 
-loop-less-3 : tie.Need-loop-smaller-3 invariant-loop2 decreases-loop2 invariant-loop decreases-loop
+loop-less-3 : tie.Need-loop-s-smaller invariant-loop-k decreases-loop-k invariant-loop-s decreases-loop-s
 loop-less-3 c = omega (arith, (moved c.before.before).ahead)
 
-loop-again-3 : tie.Need-loop-preserved-3 invariant-loop2 decreases-loop2 invariant-loop decreases-loop
-loop-again-3 c = let g = c.before.before in let m = moved g in (m.progress (omega (arith, c.if7.false)), omega (arith, m.fits, within (inner g.before).before.before))
+loop-again-3 : tie.Need-loop-s-preserved invariant-loop-k decreases-loop-k invariant-loop-s decreases-loop-s
+loop-again-3 c = let g = c.before.before in let m = moved g in (m.progress (omega (arith, c.if-shift-k.false)), omega (arith, m.fits, within (inner g.before).before.before))
 
-cast-found : tie.Need-overflow-cast-found invariant-loop2 decreases-loop2 invariant-loop decreases-loop
+cast-found : tie.Need-overflow_cast-found invariant-loop-k decreases-loop-k invariant-loop-s decreases-loop-s
 cast-found c = omega (arith, total-small (over c).progress)
 
-cast-looks : tie.Need-overflow-cast-looks invariant-loop2 decreases-loop2 invariant-loop decreases-loop
+cast-looks : tie.Need-overflow_cast-looks invariant-loop-k decreases-loop-k invariant-loop-s decreases-loop-s
 cast-looks c = omega (arith, compared-small (over c.before).progress)
 
-same_length : tie.Need-same-length invariant-loop2 decreases-loop2 invariant-loop decreases-loop
+same_length : tie.Need-shape_of-list invariant-loop-k decreases-loop-k invariant-loop-s decreases-loop-s
 same_length c = same-list (over c.before).progress
 
-returns : tie.Need-returns invariant-loop2 decreases-loop2 invariant-loop decreases-loop
+returns : tie.Need-returns invariant-loop-k decreases-loop-k invariant-loop-s decreases-loop-s
 returns c = let o = over c.before in record { answer = rw (over-total o, over-compared o); listed = over-listed o }
 
-pub search-spec : {M : Type 1} → statement M
-search-spec =
+pub search_spec : {M : Type 1} → statement M
+search_spec =
     tie.close
     (tie.spec
-    invariant-loop2
-    decreases-loop2
-    invariant-loop
-    decreases-loop
+    invariant-loop-k
+    decreases-loop-k
+    invariant-loop-s
+    decreases-loop-s
     shared-slice-read-first
     loop-holds
     add-loop
