@@ -28,110 +28,110 @@ above h l = omega arith
 find-requires : tie.Need-find-requires
 find-requires c κs = search rules
 
-find-requires-2 : tie.Need-find-requires-2
+find-requires-2 : tie.Need-find-requires-in-1
 find-requires-2 c κs = search rules
 
-find-requires-3 : tie.Need-find-requires-3
+find-requires-3 : tie.Need-find-requires-in-2
 find-requires-3 c κs = search rules
 
-find-requires-4 : tie.Need-find-requires-4
+find-requires-4 : tie.Need-find-requires-in-3
 find-requires-4 c κs = search rules
 
-find-requires-5 : tie.Need-find-requires-5
+find-requires-5 : tie.Need-find-requires-in-4
 find-requires-5 c κs = search rules
 
-find-requires-6 : tie.Need-find-requires-6
+find-requires-6 : tie.Need-find-requires-in-5
 find-requires-6 c κs = search rules
 
-find-requires-7 : tie.Need-find-requires-7
+find-requires-7 : tie.Need-find-requires-in-6
 find-requires-7 c κs = search rules
 
-find-requires-8 : tie.Need-find-requires-8
+find-requires-8 : tie.Need-find-requires-in-7
 find-requires-8 c κs = search rules
 
-same_length : tie.Need-same-length
+same_length : tie.Need-shape_of-scratch-in-0
 same_length c = search rules
 
-same-length-2 : tie.Need-same-length-2
+same-length-2 : tie.Need-shape_of-list-in-0
 same-length-2 c = search rules
 
-returns : tie.Need-returns
+returns : tie.Need-returns-in-0
 unfolding engine_of
-returns c = by-engine 0 c.before.before.before.before.before.before.before.match.keys1 (omega arith) c.before.before.before.before.find.ensures
+returns c = by-engine 0 c.in-0.is (omega arith) c.find.ensures
 
-same-length-3 : tie.Need-same-length-3
+same-length-3 : tie.Need-shape_of-scratch-in-1
 same-length-3 c = search rules
 
-same-length-4 : tie.Need-same-length-4
+same-length-4 : tie.Need-shape_of-list-in-1
 same-length-4 c = search rules
 
-returns-2 : tie.Need-returns-2
+returns-2 : tie.Need-returns-in-1
 unfolding engine_of
-returns-2 c = by-engine 1 c.before.before.before.before.before.before.before.match.keys2 (omega arith) c.before.before.before.before.find2.ensures.0
+returns-2 c = by-engine 1 c.in-1.is (omega arith) c.find-in-1.ensures.0
 
-same-length-5 : tie.Need-same-length-5
+same-length-5 : tie.Need-shape_of-scratch-in-2
 same-length-5 c = search rules
 
-same-length-6 : tie.Need-same-length-6
+same-length-6 : tie.Need-shape_of-list-in-2
 same-length-6 c = search rules
 
-returns-3 : tie.Need-returns-3
+returns-3 : tie.Need-returns-in-2
 unfolding engine_of
-returns-3 c = by-engine 2 c.before.before.before.before.before.before.before.match.keys3 (omega arith) c.before.before.before.before.find3.ensures
+returns-3 c = by-engine 2 c.in-2.is (omega arith) c.find-in-2.ensures
 
-same-length-7 : tie.Need-same-length-7
+same-length-7 : tie.Need-shape_of-scratch-in-3
 same-length-7 c = search rules
 
-same-length-8 : tie.Need-same-length-8
+same-length-8 : tie.Need-shape_of-list-in-3
 same-length-8 c = search rules
 
-returns-4 : tie.Need-returns-4
+returns-4 : tie.Need-returns-in-3
 unfolding engine_of
-returns-4 c = by-engine 3 c.before.before.before.before.before.before.before.match.keys4 (omega arith) c.before.before.before.before.find4.ensures
+returns-4 c = by-engine 3 c.in-3.is (omega arith) c.find-in-3.ensures
 
-same-length-9 : tie.Need-same-length-9
+same-length-9 : tie.Need-shape_of-scratch-in-4
 same-length-9 c = search rules
 
-same-length-10 : tie.Need-same-length-10
+same-length-10 : tie.Need-shape_of-list-in-4
 same-length-10 c = search rules
 
-returns-5 : tie.Need-returns-5
+returns-5 : tie.Need-returns-in-4
 unfolding engine_of
-returns-5 c = by-engine 4 c.before.before.before.before.before.before.before.match.keys5 (omega arith) c.before.before.before.before.find5.ensures.0
+returns-5 c = by-engine 4 c.in-4.is (omega arith) c.find-in-4.ensures.0
 
-same-length-11 : tie.Need-same-length-11
+same-length-11 : tie.Need-shape_of-scratch-in-5
 same-length-11 c = search rules
 
-same-length-12 : tie.Need-same-length-12
+same-length-12 : tie.Need-shape_of-list-in-5
 same-length-12 c = search rules
 
-returns-6 : tie.Need-returns-6
+returns-6 : tie.Need-returns-in-5
 unfolding engine_of
-returns-6 c = by-engine 5 c.before.before.before.before.before.before.before.match.keys6 (omega arith) c.before.before.before.before.find6.ensures
+returns-6 c = by-engine 5 c.in-5.is (omega arith) c.find-in-5.ensures
 
-same-length-13 : tie.Need-same-length-13
+same-length-13 : tie.Need-shape_of-scratch-in-6
 same-length-13 c = search rules
 
-same-length-14 : tie.Need-same-length-14
+same-length-14 : tie.Need-shape_of-list-in-6
 same-length-14 c = search rules
 
-returns-7 : tie.Need-returns-7
+returns-7 : tie.Need-returns-in-6
 unfolding engine_of
-returns-7 c = by-engine 6 c.before.before.before.before.before.before.before.match.keys7 (omega arith) c.before.before.before.before.find7.ensures
+returns-7 c = by-engine 6 c.in-6.is (omega arith) c.find-in-6.ensures
 
-same-length-15 : tie.Need-same-length-15
+same-length-15 : tie.Need-shape_of-scratch-in-7
 same-length-15 c = search rules
 
-same-length-16 : tie.Need-same-length-16
+same-length-16 : tie.Need-shape_of-list-in-7
 same-length-16 c = search rules
 
-returns-8 : tie.Need-returns-8
+returns-8 : tie.Need-returns-in-7
 unfolding engine_of
-returns-8 c = by-engine 7 c.before.before.before.before.before.before.before.match.keys8 (omega arith) c.before.before.before.before.find8.ensures
+returns-8 c = by-engine 7 c.in-7.is (omega arith) c.find-in-7.ensures
 
-returns-9 : tie.Need-returns-9
+returns-9 : tie.Need-returns-in_default
 returns-9 c =
-    let r = c.match.rest in
+    let r = c.in_default.in_default-own.rest in
     let from-1 = beyond 0 any r.0.0.0.0.0.0.0.1 in
     let from-4 = beyond 3 (beyond 2 (beyond 1 from-1 r.0.0.0.0.0.0.1) r.0.0.0.0.0.1) r.0.0.0.0.1 in
     let from-8 = beyond 7 (beyond 6 (beyond 5 (beyond 4 from-4 r.0.0.0.1) r.0.0.1) r.0.1) r.1 in
