@@ -8,22 +8,22 @@ use Rattle.finder_answer.proofs.Rows.{found-line}
 use Rattle.finder_answer.proofs.put_engine.Statement.{statement}
 use Rattle.finder_answer.proofs.put_engine.Tie as tie
 
-slice-aggregate-find : tie.Need-slice-aggregate-find
+slice-aggregate-find : tie.Need-slice_bounds-find-end
 slice-aggregate-find c = search rules
 
-slice-aggregate-find-2 : tie.Need-slice-aggregate-find-2
+slice-aggregate-find-2 : tie.Need-slice_bounds-find-end-2
 slice-aggregate-find-2 c = search rules
 
-find-requires : tie.Need-find-requires
+find-requires : tie.Need-find-r-requires
 find-requires c κs = search rules
 
-slice-aggregate-put-line : tie.Need-slice-aggregate-put-line
+slice-aggregate-put-line : tie.Need-slice_bounds-put_line-end
 slice-aggregate-put-line c = search rules
 
-put-line-requires : tie.Need-put-line-requires
+put-line-requires : tie.Need-put_line-requires
 put-line-requires c κs = search rules
 
-same_length : tie.Need-same-length
+same_length : tie.Need-shape_of-output
 same_length c = search rules
 
 returns : tie.Need-returns
@@ -32,11 +32,11 @@ returns c =
     let f = l.before.before.before.before.before in
     let s = f.before.before.before.before.before.before.before in
     let a = s.args in
-    subst (λ (pieces : List (List ℕ)). Laid l.put-line.new.0 l.put-line.result (put_all a.output.now a.at pieces))
-    (found-line a.name.now f.find.ensures s.requires.0 refl refl s.requires.1) l.put-line.ensures
+    subst (λ (pieces : List (List ℕ)). Laid l.put_line.new.buffer l.put_line.result (put_all a.output.now a.at pieces))
+    (found-line a.name.now f.find-r.ensures s.requires.0 refl refl s.requires.1) l.put_line.ensures
 
-pub put-engine-spec : {M : Type 1} → statement M
-put-engine-spec =
+pub put_engine_spec : {M : Type 1} → statement M
+put_engine_spec =
     tie.close
     (tie.spec
     slice-aggregate-find
