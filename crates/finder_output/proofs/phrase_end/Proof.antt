@@ -6,39 +6,39 @@ use Rattle.finder_output.proofs.Split.{Passed, passed_none, passed-more, passed-
 use Rattle.finder_output.proofs.phrase_end.Statement.{statement}
 use Rattle.finder_output.proofs.phrase_end.Tie as tie
 
-abbrev invariant-loop : tie.invariant-loop
-invariant-loop input i₀ i = Passed input i
+abbrev invariant-loop-i : tie.invariant-loop-i
+invariant-loop-i input i₀ i = Passed input i
 
-abbrev decreases-loop : tie.decreases-loop
-decreases-loop input i₀ i = length input - i
+abbrev decreases-loop-i : tie.decreases-loop-i
+decreases-loop-i input i₀ i = length input - i
 
-loop-holds : tie.Need-loop-init invariant-loop decreases-loop
+loop-holds : tie.Need-loop-i-init invariant-loop-i decreases-loop-i
 loop-holds c = passed_none c.args.input.now
 
-shared-slice-read-if1 : tie.Need-shared-slice-read-if1 invariant-loop decreases-loop
+shared-slice-read-if1 : tie.Need-bounds-input-i invariant-loop-i decreases-loop-i
 shared-slice-read-if1 c = omega arith
 
-returns : tie.Need-returns invariant-loop decreases-loop
-returns c = passed-ten c.before.before.before.loop.invariant (omega arith) (omega arith)
+returns : tie.Need-returns-then-input-i-eq10 invariant-loop-i decreases-loop-i
+returns c = passed-ten c.loop-i.invariant (omega arith) (omega arith)
 
-add-i : tie.Need-overflow-add-i invariant-loop decreases-loop
+add-i : tie.Need-overflow_add-i invariant-loop-i decreases-loop-i
 add-i c = omega arith
 
-loop-less : tie.Need-loop-smaller invariant-loop decreases-loop
+loop-less : tie.Need-loop-i-smaller invariant-loop-i decreases-loop-i
 loop-less c = omega arith
 
-loop-again : tie.Need-loop-preserved invariant-loop decreases-loop
-loop-again c = passed-more c.before.before.before.loop.invariant (omega arith) (λ e. omega arith)
+loop-again : tie.Need-loop-i-preserved invariant-loop-i decreases-loop-i
+loop-again c = passed-more c.loop-i.invariant (omega arith) (λ e. omega arith)
 
-returns-2 : tie.Need-returns-2 invariant-loop decreases-loop
-returns-2 c = passed-all c.before.loop.invariant (omega arith)
+returns-2 : tie.Need-returns invariant-loop-i decreases-loop-i
+returns-2 c = passed-all c.loop-i.invariant (omega arith)
 
-pub phrase-end-spec : {M : Type 1} → statement M
-phrase-end-spec =
+pub phrase_end_spec : {M : Type 1} → statement M
+phrase_end_spec =
     tie.close
     (tie.spec
-    invariant-loop
-    decreases-loop
+    invariant-loop-i
+    decreases-loop-i
     loop-holds
     shared-slice-read-if1
     returns

@@ -10,57 +10,57 @@ use Rattle.finder_output.proofs.print_answer.Statement.{statement}
 use Rattle.finder_output.proofs.print_answer.Tie as tie
 
 -- where the text's start is known, the input is split into phrase and text
-split : (j : tie.Joined3) → let p = j.before in Split p.before.before.before.before.before.args.input.now p.phrase-end.result j.if3.start
-split j = let e = j.before.phrase-end.ensures in ⊎_elim (λ w. split-ten e (omega arith) (omega arith)) (λ w. split-none e (omega arith) (omega arith)) j.if3.branch
+split : (j : tie.Joined-end-input) → let p = j.before in Split p.args.input.now p.phrase_end-end.result j.if-end-input.start
+split j = let e = j.phrase_end-end.ensures in ⊎_elim (λ w. split-ten e (omega arith) (omega arith)) (λ w. split-none e (omega arith) (omega arith)) j.if-end-input.branch-raw
 
-returns : tie.Need-returns
+returns : tie.Need-returns-then-output-lt262144
 returns c = promise-none (omega arith)
 
-put-refused-requires : tie.Need-put-refused-requires
+put-refused-requires : tie.Need-put_refused-requires
 put-refused-requires c κs = search rules
 
-same_length : tie.Need-same-length
+same_length : tie.Need-shape_of-output-then-input-gt33793
 same_length c = search rules
 
-returns-2 : tie.Need-returns-2
+returns-2 : tie.Need-returns-then-input-gt33793
 returns-2 c =
     let l = c.before.before in
     promise-refused (omega arith) (omega arith) l.put_refused.ensures
 
-phrase-end-requires : tie.Need-phrase-end-requires
+phrase-end-requires : tie.Need-phrase_end-end-requires
 phrase-end-requires c κs = search rules
 
-add_start : tie.Need-overflow-add-start
+add_start : tie.Need-overflow_add-start
 add_start c = search rules
 
-slice-aggregate-put-answer : tie.Need-slice-aggregate-put-answer
+slice-aggregate-put-answer : tie.Need-slice_bounds-put_answer-end
 slice-aggregate-put-answer c =
-    let p = c.before.before in
-    sym (length-take-le p.phrase-end.result p.before.before.before.before.before.args.input.now (split c.before).ends)
+    let p = c.before in
+    sym (length-take-le p.phrase_end-end.result p.args.input.now (split c).ends)
 
-sub-put-answer : tie.Need-overflow-sub-put-answer
-sub-put-answer c = (split c.before.before).starts
+sub-put-answer : tie.Need-slice_bounds-put_answer-count
+sub-put-answer c = (split c.before).starts
 
-part-put-answer-start : tie.Need-slice-bounds-put-answer-start
-part-put-answer-start c = (split c.before.before).starts
+part-put-answer-start : tie.Need-slice_bounds-put_answer-start
+part-put-answer-start c = (split c.before).starts
 
-part-put-answer-end : tie.Need-slice-bounds-put-answer-end
+part-put-answer-end : tie.Need-slice_bounds-put_answer-end-2
 part-put-answer-end c = search rules
 
-put-answer-requires : tie.Need-put-answer-requires
+put-answer-requires : tie.Need-put_answer-requires
 put-answer-requires c κs = search rules
 
-same-length-2 : tie.Need-same-length-2
+same-length-2 : tie.Need-shape_of-output
 same-length-2 c = search rules
 
-returns-3 : tie.Need-returns-3
+returns-3 : tie.Need-returns
 returns-3 c =
     let l = c.before.before in
-    let j = l.before.before.before.before.before in
-    promise-answered (omega arith) (omega arith) (split j) l.put-answer.ensures
+    let j = l.before.before.before.before in
+    promise-answered (omega arith) (omega arith) (split j) l.put_answer.ensures
 
-pub print-answer-spec : {M : Type 1} → statement M
-print-answer-spec =
+pub print_answer_spec : {M : Type 1} → statement M
+print_answer_spec =
     tie.close
     (tie.spec
     returns
