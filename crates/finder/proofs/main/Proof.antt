@@ -9,35 +9,35 @@ use Rattle.finder_output.proofs.Fits.{printed-within}
 use Rattle.finder.proofs.main.Statement.{statement}
 use Rattle.finder.proofs.main.Tie as tie
 
-slice-aggregate-read-full : tie.Need-slice-aggregate-read-full
+slice-aggregate-read-full : tie.Need-slice_bounds-read_full-end
 slice-aggregate-read-full c = search rules
 
-read-full-requires : tie.Need-read-full-requires
+read-full-requires : tie.Need-read_full-got-requires
 read-full-requires c κs = search rules
 
-array-share-prefix-input : tie.Need-array-share-prefix-input
+array-share-prefix-input : tie.Need-slice_bounds-input-end
 array-share-prefix-input c = search rules
 
-slice-aggregate-print-answer : tie.Need-slice-aggregate-print-answer
+slice-aggregate-print-answer : tie.Need-slice_bounds-print_answer-end
 slice-aggregate-print-answer c = search rules
 
-slice-aggregate-print-answer-2 : tie.Need-slice-aggregate-print-answer-2
+slice-aggregate-print-answer-2 : tie.Need-slice_bounds-print_answer-end-2
 slice-aggregate-print-answer-2 c = search rules
 
-print-answer-requires : tie.Need-print-answer-requires
+print-answer-requires : tie.Need-print_answer-length-requires
 print-answer-requires c κs = search rules
 
 -- the length given back lies within the output
-inside : (p : tie.After-print-answer) → p.print-answer.result ≤ length p.print-answer.new.1.0
-inside p = omega (arith, printed-within p.print-answer.ensures)
+inside : (p : tie.After-print_answer-length) → p.print_answer-length.result ≤ length p.print_answer-length.new.output
+inside p = omega (arith, printed-within p.print_answer-length.ensures)
 
-array-share-prefix-output : tie.Need-array-share-prefix-output
+array-share-prefix-output : tie.Need-slice_bounds-output-end
 array-share-prefix-output c = inside c.before
 
-slice-aggregate-write-all : tie.Need-slice-aggregate-write-all
-slice-aggregate-write-all c = let p = c.before.before in sym (length-take-le p.print-answer.result p.print-answer.new.1.0 (inside p))
+slice-aggregate-write-all : tie.Need-slice_bounds-write_all-end
+slice-aggregate-write-all c = let p = c.before.before in sym (length-take-le p.print_answer-length.result p.print_answer-length.new.output (inside p))
 
-write-all-requires : tie.Need-write-all-requires
+write-all-requires : tie.Need-write_all-requires
 write-all-requires c κs = search rules
 
 returns : tie.Need-returns

@@ -19,25 +19,25 @@ unfolding joined entries
 all-fit = leb-true (length (joined (entries 256))) 1024 refl
 
 -- so the length given back lies within the output
-inside : (p : tie.After-put-entries) → p.put_entries.result ≤ length p.put_entries.new.0
+inside : (p : tie.After-put_entries-length) → p.put_entries-length.result ≤ length p.put_entries-length.new.output
 inside p =
     let zeros : List ℕ = replicate 1024 0 in
-    let front = laid-front (entries 256) zeros (omega (arith, all-fit, length-replicate {A = ℕ} 1024 0)) p.put_entries.ensures in
+    let front = laid-front (entries 256) zeros (omega (arith, all-fit, length-replicate {A = ℕ} 1024 0)) p.put_entries-length.ensures in
     omega (arith, front.0, ap length front.1, length-append (joined (entries 256)) (drop (length (joined (entries 256))) zeros))
 
-slice-aggregate-put-entries : tie.Need-slice-aggregate-put-entries
+slice-aggregate-put-entries : tie.Need-slice_bounds-put_entries-end
 slice-aggregate-put-entries c = search rules
 
-put-entries-requires : tie.Need-put-entries-requires
+put-entries-requires : tie.Need-put_entries-length-requires
 put-entries-requires c κs = search rules
 
-array-share-prefix-output : tie.Need-array-share-prefix-output
+array-share-prefix-output : tie.Need-slice_bounds-output-end
 array-share-prefix-output c = inside c.before
 
-slice-aggregate-write-all : tie.Need-slice-aggregate-write-all
-slice-aggregate-write-all c = let p = c.before.before in sym (length-take-le p.put_entries.result p.put_entries.new.0 (inside p))
+slice-aggregate-write-all : tie.Need-slice_bounds-write_all-end
+slice-aggregate-write-all c = let p = c.before.before in sym (length-take-le p.put_entries-length.result p.put_entries-length.new.output (inside p))
 
-write-all-requires : tie.Need-write-all-requires
+write-all-requires : tie.Need-write_all-requires
 write-all-requires c κs = search rules
 
 returns : tie.Need-returns

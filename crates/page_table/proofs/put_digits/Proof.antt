@@ -30,35 +30,35 @@ module _ {value : ℕ} (small : value < 256) {bytes : List ℕ} {end : ℕ} (l :
       let rest : List ℕ = drop (0 + length (field value)) (replicate 4 0) in
       ap (λ (x : List ℕ). take (end - 1) (drop 1 x)) (l.bytes ∙ ap (λ (f : Filled). f.bytes) laid) ∙ take_at (decimal value) rest (end - 1) (omega (arith, end_is))
 
-slice-aggregate-put-number : tie.Need-slice-aggregate-put-number
+slice-aggregate-put-number : tie.Need-slice_bounds-put_number-end
 slice-aggregate-put-number c = search rules
 
-put-number-requires : tie.Need-put-number-requires
+put-number-requires : tie.Need-put_number-end-requires
 put-number-requires c κs = search rules
 
-sub-put-bytes : tie.Need-overflow-sub-put-bytes
-sub-put-bytes c = let n = c.before.before in omega (arith, end_is (omega arith) n.put-number.ensures)
+sub-put-bytes : tie.Need-slice_bounds-put_bytes-count
+sub-put-bytes c = let n = c.before.before in omega (arith, end_is (omega arith) n.put_number-end.ensures)
 
-part-put-bytes-start : tie.Need-slice-bounds-put-bytes-start
-part-put-bytes-start c = let n = c.before.before.before in omega (arith, end_is (omega arith) n.put-number.ensures)
+part-put-bytes-start : tie.Need-slice_bounds-put_bytes-start
+part-put-bytes-start c = let n = c.before.before in omega (arith, end_is (omega arith) n.put_number-end.ensures)
 
-part-put-bytes-end : tie.Need-slice-bounds-put-bytes-end
-part-put-bytes-end c = let n = c.before.before.before in omega (arith, end_is (omega arith) n.put-number.ensures, few (omega arith) n.put-number.ensures)
+part-put-bytes-end : tie.Need-slice_bounds-put_bytes-end
+part-put-bytes-end c = let n = c.before.before in omega (arith, end_is (omega arith) n.put_number-end.ensures, few (omega arith) n.put_number-end.ensures)
 
-put-bytes-requires : tie.Need-put-bytes-requires
+put-bytes-requires : tie.Need-put_bytes-requires
 put-bytes-requires c κs = search rules
 
-same_length : tie.Need-same-length
+same_length : tie.Need-shape_of-output
 same_length c = search rules
 
 returns : tie.Need-returns
 returns c =
     let p = c.before.before in
-    let n = p.before.before.before.before.before in
-    rw (sym (digits (omega arith) n.put-number.ensures)) p.put-bytes.ensures
+    let n = p.before.before.before.before in
+    rw (sym (digits (omega arith) n.put_number-end.ensures)) p.put_bytes.ensures
 
-pub put-digits-spec : {M : Type 1} → statement M
-put-digits-spec =
+pub put_digits_spec : {M : Type 1} → statement M
+put_digits_spec =
     tie.close
     (tie.spec
     slice-aggregate-put-number
