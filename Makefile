@@ -9,9 +9,9 @@ CARGO ?= cargo
 VERSION := $(shell sed -n 's/^version = "\(.*\)"$$/\1/p' rust/libretto/Cargo.toml)
 
 header = include/libretto.h
-archive = target/staticlib/liblibretto.a
-programs = target/bin/finder target/bin/page_table
-proved := crates.txt $(shell find crates -type f)
+archive = crates/libretto/out/liblibretto.a
+programs = crates/finder/out/finder crates/page_table/out/page_table
+proved := crates.txt $(shell find crates -type f -not -path '*/out/*')
 examples := $(patsubst examples/%.c,target/examples/%,$(wildcard examples/*.c))
 
 lib = $(DESTDIR)$(PREFIX)/lib
@@ -26,11 +26,12 @@ all: $(archive) $(header)
 
 # The prover leaves a file alone whose sources it has proved before, so the date that make goes by is set here.
 $(archive): $(proved)
-	rt staticlib libretto
+	cd crates/libretto && rt lib
 	@touch $@
 
-$(programs): target/bin/%: $(proved)
-	rt check $*
+# `rt run` proves and builds a program and then runs it, here on no input.
+$(programs): $(proved)
+	cd $(@D)/.. && rt run < /dev/null > /dev/null
 	@touch $@
 
 install: all libretto.pc.in

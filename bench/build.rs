@@ -64,7 +64,7 @@ fn compile((build, placement): &(&str, &[&str]), (file, function): &(&str, &str)
 
 /// The one object of the library's archive.
 fn unpack(out: &Path) -> PathBuf {
-    let folder = env::var_os("LIBRETTO_LIB_DIR").map_or_else(|| PathBuf::from("../target/staticlib"), PathBuf::from);
+    let folder = env::var_os("LIBRETTO_LIB_DIR").map_or_else(|| PathBuf::from("../crates/libretto/out"), PathBuf::from);
     let archive = folder.canonicalize().unwrap_or_else(|error| panic!("{}: {error}", folder.display())).join("liblibretto.a");
     println!("cargo:rerun-if-env-changed=LIBRETTO_LIB_DIR");
     println!("cargo:rerun-if-changed={}", archive.display());

@@ -47,6 +47,7 @@ fn year_length(year: u32) -> u32
 }
 
 // The days of a month in a year.
+#[tactic(auto, unfolding(crate::specs::Calendar::month_length))]
 fn month_length(year: u32, month: u32) -> u32
     ensures { result ≡ month_length year month }
 {

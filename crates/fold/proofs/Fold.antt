@@ -29,6 +29,28 @@ ranges c e =
     refl
 
 -- so 32 more is a letter still, and one that stays
+-- the letter between the ranges is no capital
+not-between : (c : ℕ) → capital c ≡ true → c ≡ 215 → ⊥
+unfolding capital
+not-between c e z = false≢true (sym (ap capital z) ∙ e)
+
+-- what a letter folds to, by where it lies
+pub folded-low : (c : ℕ) → 65 ≤ c → c ≤ 90 → c + 32 ≡ folded c
+unfolding folded capital
+folded-low c l h = sym (rw (le-leb 65 c l, le-leb c 90 h) refl)
+
+pub folded-high : (c : ℕ) → 192 ≤ c → c ≤ 222 → (c ≡ 215 → ⊥) → c + 32 ≡ folded c
+unfolding folded capital
+folded-high c l h n = sym (rw (lt-leb c 90 (omega arith), le-leb 65 c (omega arith), le-leb 192 c l, le-leb c 222 h, ne_eqb c 215 n) refl)
+
+pub folded-other : (c : ℕ) → (65 ≤ c → c ≤ 90 → ⊥) → (192 ≤ c → c ≤ 222 → (c ≡ 215 → ⊥) → ⊥) → c ≡ folded c
+unfolding folded
+folded-other c low high =
+    by-test (λ t. (capital c ≡ t) → c ≡ cond t (c + 32) c) (capital c)
+    (λ _ e. absurd (⊎_elim (λ r. low r.0 r.1) (λ r. high r.0 r.1 (not-between c e)) (ranges c e)))
+    (λ _ _. refl)
+    refl
+
 pub capital-below : (c : ℕ) → capital c ≡ true → c ≤ 222
 capital-below c e = ⊎_elim (λ r. omega (arith, r.1)) (λ r. r.1) (ranges c e)
 

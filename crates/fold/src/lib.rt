@@ -21,6 +21,7 @@ pub struct Folding {
 }
 
 // Whether there is such a page.
+#[tactic(auto, unfolding(crate::specs::Fold::is_page))]
 pub fn is_page(page: u32) -> bool
     ensures { result ≡ is_page page }
 {

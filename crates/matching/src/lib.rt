@@ -25,6 +25,7 @@ pub struct Answer {
 }
 
 // The refusal, 2 to 5 in their order, of a find of m letters in n with a scratch of `has` entries where `needs` are needed; 0 for none.
+#[tactic(auto, unfolding(crate::specs::Refusals::first_met, crate::specs::Find::refusal))]
 pub fn refused(m: usize, n: usize, has: usize, needs: usize) -> u32
     ensures { result ≡ refusal m n has needs }
 {

@@ -11,12 +11,12 @@ pub fn repository() -> PathBuf {
 
 /// The library's archive.
 pub fn archive() -> PathBuf {
-    env::var_os("LIBRETTO_LIB_DIR").map_or_else(|| repository().join("target/staticlib"), PathBuf::from).join("liblibretto.a")
+    env::var_os("LIBRETTO_LIB_DIR").map_or_else(|| repository().join("crates/libretto/out"), PathBuf::from).join("liblibretto.a")
 }
 
 /// A program that the proof run leaves in the repository's build folder, or the one that this variable names.
 pub fn proved_program(name: &str, variable: &str) -> PathBuf {
-    let path = env::var_os(variable).map_or_else(|| repository().join("target/bin").join(name), PathBuf::from);
+    let path = env::var_os(variable).map_or_else(|| repository().join("crates").join(name).join("out").join(name), PathBuf::from);
     assert!(path.is_file(), "the program {name} does not exist at {}: build it first", path.display());
     path
 }

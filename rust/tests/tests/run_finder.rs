@@ -11,8 +11,8 @@ use std::path::{Path, PathBuf};
 use std::process::{Command, Output, Stdio};
 use std::sync::Mutex;
 
-const WAITING: &str = "run-finder: waiting for 'rt check finder', which proves and builds what has changed; all of it takes about two minutes\n";
-const NOT_RUN: &str = "run-finder: 'rt check finder' did not leave a checked finder, so none is run\n";
+const WAITING: &str = "run-finder: waiting for 'rt run' in crates/finder, which proves and builds what has changed; all of it takes about two minutes\n";
+const NOT_RUN: &str = "run-finder: 'rt run' in crates/finder did not leave a checked finder, so none is run\n";
 
 /// A new folder of a test's own.
 fn folder(test: &str) -> PathBuf {
@@ -77,19 +77,20 @@ fn copy(test: &str, rt: &str) -> (PathBuf, PathBuf) {
     let script = fs::read_to_string(repository().join("run-finder")).expect("the script is read");
     write_program(&root.join("run-finder"), &script);
     fs::write(root.join("crates.txt"), "finder:\n").expect("the list is written");
-    write_program(&root.join("bin/rt"), &format!("#!/bin/sh\nset -e\n[ \"$*\" = 'check finder' ] && [ -f crates.txt ]\n{rt}\n"));
+    fs::create_dir_all(root.join("crates/finder")).expect("the folder is made");
+    write_program(&root.join("bin/rt"), &format!("#!/bin/sh\nset -e\n[ \"$*\" = run ] && [ -f ../../crates.txt ] && [ \"$(basename \"$PWD\")\" = finder ]\n{rt}\n"));
     let bin = root.join("bin");
     (root.join("run-finder"), bin)
 }
 
 /// A build whose finder prints a word and its standard input. It reads its own standard input, of which there must be nothing.
 const BUILD: &str =
-    "cat\necho proved\necho warned >&2\nmkdir -p target/bin\nprintf '#!/bin/sh\\necho NEW\\nexec cat\\n' > target/bin/finder\nchmod 755 target/bin/finder";
+    "cat\necho proved\necho warned >&2\nmkdir -p out\nprintf '#!/bin/sh\\necho NEW\\nexec cat\\n' > out/finder\nchmod 755 out/finder";
 
 #[test]
 fn builds_and_runs() {
     let (script, bin) = copy("builds", BUILD);
-    let old = script.with_file_name("target/bin/finder");
+    let old = script.with_file_name("crates/finder/out/finder");
     is(&run(&script, Path::new("/"), b"la\n\0la", Some(&bin)), 0, "NEW\nla\n\0la", "");
     write_program(&old, "#!/bin/sh\necho OLD\n");
     is(&run(&script, &bin, b"la", Some(&bin)), 0, "NEW\nla", "");
@@ -98,7 +99,7 @@ fn builds_and_runs() {
 #[test]
 fn runs_nothing_after_a_failure() {
     let (script, bin) = copy("failure", "echo broken\nexit 3");
-    write_program(&script.with_file_name("target/bin/finder"), "#!/bin/sh\necho OLD\n");
+    write_program(&script.with_file_name("crates/finder/out/finder"), "#!/bin/sh\necho OLD\n");
     is(&run(&script, Path::new("/"), b"la", Some(&bin)), 3, "", &format!("broken\n{NOT_RUN}"));
 
     let (script, bin) = copy("nothing", "echo proved");
