@@ -9,7 +9,8 @@ use lib.ListN.{length, replicate}
 use Rattle.matching.specs.declared.Finding.{Finding}
 use Rattle.matching.proofs.Find.{found-most}
 use Rattle.kmp.proofs.Bound.{bound}
-use Rattle.kmp.proofs.Exact.{aaab, aaab-found}
+use Rattle.kmp.proofs.Exact.{aaab}
+use Rattle.kmp.proofs.ExactFound.{aaab-found}
 use Rattle.find.specs.Find.{engine_of, Answered}
 
 pub method-1-bounded : {P T scratch list : List ℕ} {r : Finding} {scratch' list' : List ℕ} → Answered 1 P T scratch list r scratch' list' → length P ≤ length T

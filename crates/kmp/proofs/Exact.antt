@@ -1,5 +1,5 @@
 -- Document 02, (xii), exactly: for letters a and b that differ and every m from 2 to n, m - 1 letters a and a b cost exactly 2n - m comparisons in n letters a (`aaab-costs`),
--- and a find of it that is not refused returns that number, whatever the lent memory and however short the list (`aaab-found`). Every window has m - 1 letters equal and the
+-- and a find of it that is not refused returns that number, whatever the lent memory and however short the list (`aaab-found` of `ExactFound`). Every window has m - 1 letters equal and the
 -- last one unequal, and moves on by 1 carrying m - 2: the first makes m looks, each later one 2. For m = 1 this is false from n = 2 on: nothing is carried, and a pattern of one letter
 -- costs n in every text of n letters (`one-costs`). Assumes nothing.
 use mathlib.Core.Path.{◌≡◌, refl, sym, ap, ◌∙◌}
@@ -10,15 +10,13 @@ use lib.ListN.{length, get_or, replicate, length-append, length-replicate, get_o
 use lib.Seq.{get_or_at}
 use lib.Dec.{ltb}
 use borrow.Author.Tests.{ltb-true, ltb-false}
-use Rattle.matching.specs.declared.Finding.{Finding}
 use Rattle.matching.specs.Occurrences.{same}
 use Rattle.matching.specs.Letters.{equal_on, reach}
 use Rattle.matching.specs.Machine.{at, run_from, compared_in}
-use Rattle.matching.specs.Find.{compared, Found}
+use Rattle.matching.specs.Find.{compared}
 use Rattle.matching.proofs.CaseAnalysis.{by-test}
 use Rattle.matching.proofs.Letters.{Meets, reach-le, reach-is, looks-part, looks-all}
 use Rattle.matching.proofs.Machine.{carries-none, run_on}
-use Rattle.matching.proofs.Find.{found-compared}
 use Rattle.matching.proofs.Costs.{run-alike}
 use Rattle.tables.specs.Tables.{largest}
 use Rattle.border_tables.specs.Kmp.{border, strong, kmp_entry}
@@ -94,10 +92,6 @@ module _ (a b : ℕ) (differ : a ≡ b → ⊥) (m n : ℕ) (two : 2 ≤ m) (fit
       later =
           run-alike window P T 2 (m - 2) (λ s i. (looked s (m - 2) (omega (arith, size, long)) (omega arith) ∙ omega arith, next s (m - 2) (omega (arith, size, long)) (omega arith)))
           (n - m) (0 + 1) (omega (arith, size, long))
-
-  pub aaab-found : {scratch list : List ℕ} {r : Finding} {scratch' list' : List ℕ} → Found kmp (aaab m a b) (replicate n a) scratch list r scratch' list' → r.refusal ≡ 0
-      → r.comparisons ≡ 2 * n - m
-  aaab-found found z = found-compared found z ∙ aaab-costs
 
 -- a pattern of one letter: one look a window, which moves on by 1 carrying nothing, whether the letter is equal or not
 module _ (b : ℕ) (T : List ℕ) where

@@ -2,3 +2,4 @@
 pub mod Sound
 pub mod Bound
 pub mod Exact
+pub mod ExactFound
