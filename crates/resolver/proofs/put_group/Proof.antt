@@ -82,7 +82,7 @@ loop-again c =
     let e = p.before.before in
     let i = tested e.before in
     let l = i.before in (
-      puts-next l.loop-count.invariant.0 l.loop-count.invariant.1.1 (omega (arith, i.loop-count-test.true)) (start l).requires.1.0 (sym e.cue_refused-refusal.ensures ∙ e.if-refusal-ne0.false) p.put_entries-spot.ensures.1,
+      puts-next l.loop-count.invariant.0 l.loop-count.invariant.1.1 (omega (arith, i.loop-count-test.true)) (start l).requires.1.0 (let none : e.cue_refused-refusal.result ≡ 0 = omega arith in sym e.cue_refused-refusal.ensures ∙ none) p.put_entries-spot.ensures.1,
       (p.put_entries-spot.auto.entries ∙ l.loop-count.invariant.1.0, p.put_entries-spot.ensures.0),
     )
 

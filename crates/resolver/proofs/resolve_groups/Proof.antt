@@ -133,7 +133,7 @@ loop-again c =
     let e = c.before.before in
     let k = resolved e.before.before in
     let l = here k in (
-      along-next (along l) k.resolve_group-g.ensures e.if-g-ne0.false,
+      along-next (along l) k.resolve_group-g.ensures (omega arith),
       (scratch-kept k, (λ h. emptied k, k.resolve_group-g.ensures.spot)),
     )
 
