@@ -88,6 +88,7 @@ pub fn mark_at(bytes: &[u8]) -> u8
 }
 
 // The refusal of an ordinal by its body: it is not 0.
+#[tactic(auto, unfolding(matching::specs::Refusals::first_met, crate::specs::Field::number_in))]
 fn ordinal_refusal(body: &[u8]) -> u32
     ensures { result ≡ first_met (value_tests Ordinal body.now) }
 {
@@ -107,6 +108,7 @@ fn dates_refusal(body: &[u8]) -> u32
 }
 
 // The refusal of a house mark by its body: it is 0 or 1.
+#[tactic(auto, unfolding(matching::specs::Refusals::first_met))]
 fn house_refusal(body: &[u8]) -> u32
     ensures { result ≡ first_met (value_tests House body.now) }
 {

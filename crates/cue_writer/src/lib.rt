@@ -44,6 +44,7 @@ fn mark_len(house: u32) -> usize
 }
 
 // The refusal of a cue to be written into a buffer of so many bytes, 0 for none.
+#[tactic(auto, unfolding(crate::specs::Writing::write_refusal, matching::specs::Refusals::first_met))]
 fn write_refusal(
     phrase: &[u8],
     ordinal: u32,

@@ -42,6 +42,7 @@ pub fn group_fits(count: usize, bytes: usize) -> bool
 }
 
 // The tests of a cue, by whether its occurrence exists, how many cues came before it, the place of the last of them, and its own; 0 for none.
+#[tactic(auto, unfolding(crate::specs::Outcome::fault_of, matching::specs::Refusals::first_met))]
 pub fn cue_refused(there: bool, before: usize, last: u32, place: u32) -> u32
     ensures { result ≡ fault_of there before last place }
 {

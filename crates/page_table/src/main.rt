@@ -38,6 +38,7 @@ fn put_digits(output: &mut [u8], at: usize, value: u8) -> usize
 }
 
 // Puts what follows the entry of a letter.
+#[tactic(auto, unfolding(crate::specs::Entries::after))]
 fn put_after(output: &mut [u8], at: usize, letter: u32) -> usize
     ensures { Laid output.new result (put output.old at (after letter ∷ [])) }
 {

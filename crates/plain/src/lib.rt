@@ -195,6 +195,7 @@ pub fn read_cue(book: &[u8], place: usize) -> PlainCue
 }
 
 // The days that come as plain numbers: always where `dated` is 0, and then the two others play no part; and else from the first to the last.
+#[tactic(auto, unfolding(crate::specs::Plain::days_given))]
 fn given_days(dated: u32, first: u32, last: u32) -> Days
     ensures { result ≡ days_given dated first last }
 {
