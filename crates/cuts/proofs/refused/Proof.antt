@@ -72,7 +72,7 @@ returns-6 c =
     let a = c.before.before in
     let d = a.before in
     let e = d.before.before.before in
-    sym (refused-not (P e) (T e) (list e) (the_cut e) (none d.before.before) d.before.if-end-start.false d.if-n-end.false (ap not (sym a.accepted-good.ensures) ∙ c.before.if-not-good.false-raw) (omega (arith, c.if-start-letters-gt32768.false)))
+    sym (refused-not (P e) (T e) (list e) (the_cut e) (none d.before.before) d.before.if-end-start.false d.if-n-end.false (ap not (sym a.accepted-good.ensures) ∙ c.before.if-not-good.false-raw) (omega arith))
 
 pub refused_spec : {M : Type 1} → statement M
 refused_spec = tie.close (tie.spec refused-requires returns returns-2 returns-3 accepted-requires returns-4 add-if5 add-if5-2 returns-5 returns-6)
