@@ -35,6 +35,16 @@ module _ (text : List ℕ) (start line column end count : ℕ) (counted : ends_b
   unfolding line_column_on
   on_none h = rw (between, le-ltb 0 count h) refl
 
+-- the same with the count as the difference that it is, for `grind`
+pub counted_some : (text : List ℕ) (start line column end : ℕ) → ends_before text start < ends_before text end
+    → line_column_on text start line column end ≡ record { line = line + (ends_before text end - ends_before text start); column = end - line_start text end + 1 }
+counted_some text start line column end h = on_some text start line column end (ends_before text end - ends_before text start) (omega arith) (omega arith)
+
+pub counted_none : (text : List ℕ) (start line column end : ℕ) → ends_before text end ≡ ends_before text start
+    → line_column_on text start line column end ≡ record { line = line; column = column + (end - start) }
+counted_none text start line column end h =
+    on_none text start line column end 0 (omega (arith, h)) (omega arith) ∙ ap (λ (n : ℕ). record { line = n; column = column + (end - start) }) (omega arith)
+
 -- what is told of a place being right, so is what is counted on from there
 on-right : (text : List ℕ) {start : ℕ} {told : LineColumn} (end : ℕ) → start ≤ end → end ≤ length text → told ≡ line_column text start
     → line_column_on text start told.line told.column end ≡ there text end

@@ -13,6 +13,7 @@ pub struct LineColumn {
 }
 
 // Whether a line ends with the byte `here`, which `next` follows: at 10, and at 13 that is not the first byte of a pair 13 10.
+#[tactic(auto, unfolding(crate::specs::LineColumn::ends_line, crate::specs::LineColumn::is_pair, crate::specs::LineColumn::is_ending))]
 fn ends_line(here: u8, next: u8) -> bool
     ensures { result ≡ ends_line here next }
 {
@@ -87,6 +88,7 @@ fn count_back(text: &[u8], end: usize) -> usize
 }
 
 // The line and the column of a place in the text, told those of one at or before it: the bytes between the two are all that is looked at.
+#[tactic(auto, using(crate::proofs::Lines::counted_some, crate::proofs::Lines::counted_none))]
 fn count_on(text: &[u8], start: usize, line: u32, column: u32, end: usize) -> LineColumn
     requires { (start ≤ end) × (end ≤ length text.now) }
     ensures { result ≡ line_column_on text.now start line column end }

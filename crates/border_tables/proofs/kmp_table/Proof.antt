@@ -9,6 +9,7 @@ use mathlib.Core.Logic.{⊎_elim}
 use mathlib.Core.List.{List, ◌++◌}
 use lib.ListN.{length, get_or, drop, set, length-set}
 use lib.Seq.{drop-set-lt}
+use Rattle.std.proofs.lemmas.Bool.{cases_eq, cases_lt}
 use Rattle.matching.proofs.CaseAnalysis.{at_same}
 use Rattle.tables.specs.Tables.{tabulate}
 use Rattle.border_tables.specs.Kmp.{kmp_entry, kmp_made}
@@ -46,7 +47,7 @@ module _ {P t₀ t : List ℕ} {q i j : ℕ} (m : Made P t₀ t q i) (pos : 1 �
   follow h differs = rw entry (chain-on P q j h pos c differs)
 
 -- the outer loop's turn: b[q + 2] is stored at q + 1
-module _ {P t₀ t : List ℕ} {q i j : ℕ} (v : ℕ) (m : Made P t₀ t q i) (h : q < length P) (w : Longest P (suc q) (suc j)) where
+module _ {P t₀ t : List ℕ} {q i j v : ℕ} (m : Made P t₀ t q i) (h : q < length P) (w : Longest P (suc q) (suc j)) where
   value_same : q + 1 < length P → get_or P (q + 1) 0 ≡ get_or P (j + 1 - 1) 0 → v ≡ get_or t (j + 1 - 1) 0 → v ≡ kmp_entry P (suc q)
   value_same l e d =
       d ∙ m.ruled.entry (j + 1 - 1) (omega (arith, w.low)) ∙ ap (kmp_entry P) (omega arith)
@@ -55,6 +56,14 @@ module _ {P t₀ t : List ℕ} {q i j : ℕ} (v : ℕ) (m : Made P t₀ t q i) (
   value-longest : (q + 1 < length P → get_or P (q + 1) 0 ≡ get_or P (j + 1 - 1) 0 → ⊥) → v ≡ j + 1 → v ≡ kmp_entry P (suc q)
   value-longest differs d =
       d ∙ add-one j ∙ sym (entry-longest P (suc q) (suc j) (omega arith) w (λ l e. differs (omega arith) (at_same P (omega arith) ∙ sym e ∙ at_same P (omega arith))))
+
+  value : (q + 1 < length P → get_or P (q + 1) 0 ≡ get_or P (j + 1 - 1) 0 → v ≡ get_or t (j + 1 - 1) 0)
+      → ((q + 1 < length P → get_or P (q + 1) 0 ≡ get_or P (j + 1 - 1) 0 → ⊥) → v ≡ j + 1) → v ≡ kmp_entry P (suc q)
+  value x y =
+      ⊎_elim
+      (λ l. ⊎_elim (λ e. value_same l e (x l e)) (λ d. value-longest (λ _ e. d e) (y (λ _ e. d e))) (cases_eq (get_or P (q + 1) 0) (get_or P (j + 1 - 1) 0)))
+      (λ l. value-longest (λ h _. absurd (omega arith)) (y (λ h _. absurd (omega arith))))
+      (cases_lt (q + 1) (length P))
 
   stored : v ≡ kmp_entry P (suc q) → Made P t₀ (set t (q + 1) v) (q + 1) (j + 1)
   stored e = rw (add-one q, add-one j) (record { low = omega arith; fits = m.fits; ruled = ruled-next (omega (arith, m.fits)) m.ruled v e; chain = longest-chain w })
@@ -178,13 +187,9 @@ loop-again : tie.Need-loop-q-preserved invariant-loop-j decreases-loop-j invaria
 loop-again c =
     let o = c.before.before.before.before.before in
     let m = o.loop-q.invariant in
-    let e = c.if-q-m.entry in
     let h : o.loop-q.q < length (P o) = omega arith in
     let w = ended c.before in
-    stored e m h w
-    (⊎_elim (λ x. value_same e m h w (omega arith) x.if-pattern-q.true x.entry-is)
-    (⊎_elim (λ x. value-longest e m h w (λ _. x.if-pattern-q.false) x.entry-is) (λ x. value-longest e m h w (λ y. absurd (omega arith)) x.entry-is))
-    c.if-q-m.branch-raw)
+    stored m h w (value m h w (λ l e. grind (arith, e)) (λ d. grind (arith, d)))
 
 same_length : tie.Need-shape_of-table invariant-loop-j decreases-loop-j invariant-loop-q decreases-loop-q
 same_length c = c.loop-q.invariant.ruled.long ∙ simp length-set

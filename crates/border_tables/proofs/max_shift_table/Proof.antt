@@ -6,6 +6,7 @@ use native.Mathlib.Omega.{arith}
 use mathlib.Core.List.{List, ◌++◌}
 use lib.ListN.{length, get_or, drop, set}
 use lib.Seq.{drop-drop}
+use Rattle.std.proofs.lemmas.Bool.{cases_lt}
 use Rattle.tables.specs.Tables.{tabulate}
 use Rattle.letter_tables.specs.declared.Gap.{Gap}
 use Rattle.letter_tables.specs.Gaps.{md}
@@ -70,6 +71,12 @@ module _ {P t₀ t : List ℕ} {q : ℕ} (m : Made P t₀ t q) (h : q ≤ length
     far : width < q - get_or t q 0 + 1 → shift ≡ q - get_or t q 0 + 1 → shift ≡ max_shift P q
     far a e = e ∙ by-entry ∙ sym (shift-more P q (omega (arith, by-entry)))
 
+    -- the shift that a turn writes is its rule's
+    value : (q - get_or t q 0 + 1 ≤ width → q ≤ width → shift ≡ width) → (q - get_or t q 0 + 1 ≤ width → width < q → shift ≡ q - get_or t q 0 + 1)
+        → (width < q - get_or t q 0 + 1 → shift ≡ q - get_or t q 0 + 1) → shift ≡ max_shift P q
+    value x y z =
+        ⊎_elim (λ a. far a (z a)) (λ a. ⊎_elim (λ b. deep a b (y a b)) (λ b. wide a b (x a b)) (cases_lt width q)) (cases_lt width (q - get_or t q 0 + 1))
+
   stored : {shift : ℕ} → shift ≡ max_shift P q → Made P t₀ (set t (length P + 1 + q) shift) (q + 1)
   stored {shift} e =
       let z : length P + 1 + (q + 1) ≡ suc (length P + 1 + q) = omega arith in
@@ -122,17 +129,6 @@ width : (e : tie.Else-table-m invariant-loop-q decreases-loop-q) → let P = (st
 width e =
     let P = (start (found e)).args.pattern.now in
     ap (λ (g : Gap). g.width) ((found e).widest_gap-widest.ensures ∙ found-widest P (limits e).0)
-
--- the shift that a turn writes is its rule's
-value : (j : tie.Joined-shift-md invariant-loop-q decreases-loop-q) → let l = j.before.before.before in j.if-shift-md.shift ≡ max_shift (P l) l.loop-q.q
-value j =
-    let l = j.before.before.before in
-    let m = l.loop-q.invariant in
-    let h : l.loop-q.q ≤ length (P l) = j.loop-q-test.true in
-    let is = width (roomy l) in
-    ⊎_elim (λ w. wide m h is (omega (arith, w.if-shift-md.true)) (omega (arith, w.if-equal-md.true)) w.shift-is)
-    (⊎_elim (λ w. deep m h is w.if-shift-md.true w.if-equal-md.false w.shift-is) (λ w. far m h is w.if-shift-md.false w.shift-is))
-    j.if-shift-md.branch-raw
 
 widest-gap-requires : tie.Need-widest_gap-widest-requires invariant-loop-q decreases-loop-q
 widest-gap-requires c κs = tt
@@ -205,7 +201,12 @@ loop-less : tie.Need-loop-q-smaller invariant-loop-q decreases-loop-q
 loop-less c = omega arith
 
 loop-again : tie.Need-loop-q-preserved invariant-loop-q decreases-loop-q
-loop-again c = let i = c.before.before in stored i.loop-q.invariant i.loop-q-test.true (value c)
+loop-again c =
+    let l = c.before.before.before in
+    let m = l.loop-q.invariant in
+    let h : l.loop-q.q ≤ length (P l) = c.loop-q-test.true in
+    let is = width (roomy l) in
+    stored m h (value m h is (λ a b. grind arith) (λ a b. grind arith) (λ a. grind arith))
 
 same_length : tie.Need-shape_of-table invariant-loop-q decreases-loop-q
 same_length c = let l = c.before in l.loop-q.invariant.ruled.long ∙ (made l.before.before.before.before).long

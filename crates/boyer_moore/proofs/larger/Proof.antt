@@ -74,7 +74,7 @@ returns-2 : tie.Need-returns
 returns-2 c =
     let k = c.before in
     let a = k.before.before.before in
-    larger-is a.args.pattern.now a.args.text.now a.args.s a.args.k (q a) (omega arith) (by-letter k.before).is (by_place k).is (omega (arith, c.if-by_letter-by_place.false))
+    larger-is a.args.pattern.now a.args.text.now a.args.s a.args.k (q a) (omega arith) (by-letter k.before).is (by_place k).is (omega arith)
 
 pub larger_spec : {M : Type 1} → statement M
 larger_spec =

@@ -79,7 +79,7 @@ passed : (c : tie.After-compare_down-k invariant-loop-s decreases-loop-s) → le
 passed c = down-compared c.compare_down-k.ensures (omega arith) (omega arith)
 
 equal : (c : tie.After-compare_down-k invariant-loop-s decreases-loop-s) → let l = c.before.before.before.before in let t = maker l in get_or (P t) (length (P t) - 1) 0 ≡ under (P t) (T t) l.loop-s.s
-equal c = omega (arith, c.if-u-last.true)
+equal c = omega arith
 
 zero : (c : tie.After-compare_down-k invariant-loop-s decreases-loop-s) → let l = c.before.before.before.before in let t = maker l in jump (P t) (T t) l.loop-s.s ≡ 0
 zero c = let l = c.before.before.before.before in let t = maker l in jump-zero (P t) (T t) l.loop-s.s l.loop-s.invariant.0.sound.some (equal c)
@@ -182,7 +182,7 @@ add_total : tie.Need-overflow_add-total invariant-loop-s decreases-loop-s
 add_total c = let t = c.before.before.before.before.before in omega (arith, total-small t.loop-s.invariant.0)
 
 jump-requires : tie.Need-jump-shift-requires invariant-loop-s decreases-loop-s
-jump-requires c κs = let l = c.before.before.before in let p = l.loop-s.invariant.0 in ((p.sound.some, (omega arith, p.small)), ((refl, (filled (maker l)).entries), (refl, other c)))
+jump-requires c κs = let l = c.before.before.before in let p = l.loop-s.invariant.0 in ((p.sound.some, (omega arith, p.small)), ((refl, (filled (maker l)).entries), (refl, λ u. omega arith)))
 
 add-s : tie.Need-overflow_add-s-in-loop-s invariant-loop-s decreases-loop-s
 add-s c = let r = stepped c.before in omega (arith, r.fits, c.loop-s.invariant.0.small)

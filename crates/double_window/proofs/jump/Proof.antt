@@ -51,7 +51,7 @@ start c = c.before.before.before.before.before.before
 by-v : (c : tie.After-shared_slice_known-3-1) → let b = start c in get_or b.args.entries.now (get_or (T b) (b.args.s + 2 * length (P b) - 1) 0) 0 ≡ read (P b) (v b)
 by-v c =
     let b = start c in
-    entry_of b (get_or (T b) (b.args.s + 2 * length (P b) - 1) 0) (byte-v c.before.before) (λ e. omega (arith, e, c.if-v-last.false)) ∙ ap (read (P b)) (v-is b)
+    entry_of b (get_or (T b) (b.args.s + 2 * length (P b) - 1) 0) (byte-v c.before.before) (λ e. omega arith) ∙ ap (read (P b)) (v-is b)
 
 -- the jump where u is absent and v lies in the text: m more than what is read by v
 further : (e : tie.Else-text-further) → let b = e.before.before.before in jump (P b) (T b) b.args.s ≡ length (P b) + read (P b) (v b)

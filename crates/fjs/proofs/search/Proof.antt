@@ -212,7 +212,7 @@ loop-again c =
     let l = jumping k.before in
     let v = l.loop-s.invariant in
     let j = jumped k in
-    let zero = k.if-q-eq0.true in
+    let zero : l.loop-s.q ≡ 0 = omega arith in
     let inside = within (looking k.before) in
     let on = follows k.before in
     let differs = k.if-pattern-end.true in
@@ -348,7 +348,7 @@ returns-2 : tie.Need-returns-then-n-s invariant-loop-k decreases-loop-k invarian
 returns-2 c =
     let l = c.before.before.before.before.before.before in
     let v = l.loop-s.invariant in
-    let zero = c.if-q-eq0.true in
+    let zero : l.loop-s.q ≡ 0 = omega arith in
     let inside = within c.before.before.before.before.before in
     let differs = c.if-pattern-end.true in
     searched-all (sunday-over l.loop-s.s (end-differs v.progress inside zero differs) c.if-n-s.true)

@@ -1,11 +1,12 @@
 -- `horspool::find` meets its contract. The loop's invariant is the run's progress (`matching`), with the table by its rule (`letter_tables`). Assumes nothing.
 use borrow.Author.Rules.{rules}
-use mathlib.Core.Path.{refl}
+use mathlib.Core.Path.{◌≡◌, refl}
 use mathlib.Core.Logic.{⊎_elim}
 use Prim.Native.Nat.{ℕ, ◌+◌, ◌-◌, ◌≤◌, ◌<◌}
 use native.Mathlib.Omega.{arith}
 use mathlib.Core.List.{List}
-use lib.ListN.{length, get_or}
+use lib.ListN.{length, get_or, set}
+use Rattle.std.proofs.lemmas.Bool.{cases_lt}
 use Rattle.matching.specs.Machine.{at}
 use Rattle.matching.proofs.Letters.{Downward, down-compared}
 use Rattle.matching.proofs.Find.{found-refused}
@@ -52,18 +53,16 @@ filled t = let g = (allowed t.before.before).limits in horspool-filled (call t.b
 passed : (c : tie.After-compare_down-k invariant-loop-s decreases-loop-s) → let l = c.before.before in Downward (P l) (T l) l.loop-s.s (length (P l)) c.compare_down-k.result
 passed c = down-compared c.compare_down-k.ensures (omega arith) (omega arith)
 
--- one window done, whether it reports or not
-stepped : (j : tie.Joined-k-m invariant-loop-s decreases-loop-s)
-    → let l = j.before.before.before in
-    Progress horspool (P l) (T l) (call (maker l).before.before).args.list.now (horspool_move (P l) (T l) l.loop-s.s) j.if-k-m.total j.if-k-m.compared j.if-k-m.list
-unfolding window
-stepped j =
-    let p = j.loop-s.invariant.0 in
-    let d = passed j.before in
-    ⊎_elim
-    (λ w. rw (w.list-is, w.total-is, w.compared-is) (miss-down p (omega arith) refl d (omega (arith, w.if-k-m.true)) (omega arith)))
-    (λ w. rw (w.list-is, w.total-is, w.compared-is, w.store.ensures) (hit-down p (omega arith) refl d (omega (arith, w.if-k-m.false)) (omega arith)))
-    j.if-k-m.branch-raw
+-- one window done, whether it reports or not, told by how many letters are equal
+module _ {P T list₀ list : List ℕ} {s total compared k : ℕ} (p : Progress horspool P T list₀ (at s 0) total compared list) (inside : s + length P ≤ length T) where
+  stepped : {t c : ℕ} {l : List ℕ} → Downward P T s (length P) k → (k < length P → (l ≡ list) × ((t ≡ total) × (c ≡ compared + k + 1)))
+      → (length P ≤ k → (l ≡ set list total s) × ((t ≡ total + 1) × (c ≡ compared + k))) → Progress horspool P T list₀ (horspool_move P T s) t c l
+  unfolding window
+  stepped d part all =
+      ⊎_elim
+      (λ h. let e = part h in rw (e.0, e.1.0, e.1.1) (miss-down p inside refl d h (omega arith)))
+      (λ h. let e = all h in rw (e.0, e.1.0, e.1.1) (hit-down p inside refl d h (omega arith)))
+      (cases_lt k (length P))
 
 -- the letter under the pattern's end, and the move by its entry
 byte : (c : tie.After-shared_slice_known-in-loop-s-1 invariant-loop-s decreases-loop-s) → let l = c.before.before.before.before in get_or (T l) (l.loop-s.s + (length (P l) - 1)) 0 < 256
@@ -143,7 +142,9 @@ loop-again : tie.Need-loop-s-preserved invariant-loop-s decreases-loop-s
 loop-again c =
     let l = c.before.before.before.before.before in
     let m = moved c in
-    (horspool-goes l.loop-s.s (stepped c.before.before) m, (omega (arith, m.most), l.loop-s.invariant.1.1))
+    let p = l.loop-s.invariant.0 in
+    let d = passed c.before.before.before in
+    (horspool-goes l.loop-s.s (stepped p (omega arith) d (λ h. grind (arith, h)) (λ h. grind (arith, h))) m, (omega (arith, m.most), l.loop-s.invariant.1.1))
 
 cast-found : tie.Need-overflow_cast-found invariant-loop-s decreases-loop-s
 cast-found c = omega (arith, total-small c.loop-s.invariant.0)

@@ -6,13 +6,13 @@ use Prim.Native.Nat.{ℕ, ◌+◌, ◌-◌, ◌≤◌, ◌<◌}
 use native.Mathlib.Omega.{arith}
 use mathlib.Core.List.{List}
 use lib.ListN.{length, get_or}
+use Rattle.std.proofs.lemmas.Bool.{cases_lt}
 use Rattle.matching.specs.Machine.{at}
 use Rattle.matching.proofs.CaseAnalysis.{at_same}
 use Rattle.matching.proofs.Letters.{Upward, up_none, up_next}
 use Rattle.matching.proofs.Progress.{Progress, Over, begins, total-small, compared-small, same-list, past, over-total, over-compared, over-listed}
 use Rattle.tables.proofs.Tables.{Reads}
 use Rattle.letter_tables.specs.BadCharacter.{sunday_entry}
-use Rattle.letter_tables.specs.Gaps.{mdp}
 use Rattle.letter_tables.proofs.BadCharacter.{sunday-reads}
 use Rattle.letter_tables.proofs.Moves.{sunday-goes, sunday-over}
 use Rattle.border_tables.specs.Kmp.{kmp_entry}
@@ -114,32 +114,19 @@ by-gap j = let l = outer (inner j) in max-reads (P l) (start l).requires.some (s
 by-border : (j : tie.Joined-k-m invariant-loop-k decreases-loop-k invariant-loop-s decreases-loop-s) → let i = inner j in let l = outer i in Reads (get_or (start l).args.scratch.now (256 + i.loop-k.k) 0) (kmp_entry (P l) i.loop-k.k) 0 i.loop-k.k
 by-border j = let l = outer (inner j) in kmp-reads (P l) (kmps (start l).requires) (stepped j).few refl
 
--- the window moved on by what was read, whichever it was
-record Moved (P T list₀ : List ℕ) (s k d total compared : ℕ) (list : List ℕ) : Type 0 where
-  progress : {q : ℕ} → q ≡ k - d → Progress improved_fjs P T list₀ (at (s + d) q) total compared list
-  ahead : 1 ≤ d
-  fits : d ≤ length P + 1
-
-moved : (g : tie.Joined-q-gt0 invariant-loop-k decreases-loop-k invariant-loop-s decreases-loop-s) → let j = g.before in let i = j.before.before.before in let l = outer i in
-    Moved (P l) (T l) (start l).args.list.now l.loop-s.s i.loop-k.k g.if-q-gt0.shift j.if-k-m.total j.if-k-m.compared j.if-k-m.list
-moved g =
-    let j = g.before in
+-- the window moved on by what was read, whichever it was: KMP's entry where letters were carried, and else MAX_Shift's
+moved : (j : tie.Joined-k-m invariant-loop-k decreases-loop-k invariant-loop-s decreases-loop-s) {d q : ℕ} → let i = inner j in let l = outer i in
+    (0 < l.loop-s.q → d ≡ i.loop-k.k + 1 - get_or (start l).args.scratch.now (256 + i.loop-k.k) 0)
+    → (l.loop-s.q ≤ 0 → d ≡ get_or (start l).args.scratch.now (256 + (length (P l) + 1) + i.loop-k.k) 0) → q ≡ i.loop-k.k - d
+    → Progress improved_fjs (P l) (T l) (start l).args.list.now (at (l.loop-s.s + d) q) j.if-k-m.total j.if-k-m.compared j.if-k-m.list
+moved j border gap e =
     let i = inner j in
     let l = outer i in
-    let d = stepped j in
+    let w = stepped j in
     ⊎_elim
-    (λ w.
-    let r = by-border j in
-    rw w.shift-is
-    (record {
-      progress = λ e. kmp-goes l.loop-s.s i.loop-k.k (d.carried (omega (arith, w.if-q-gt0.true))) r (omega (arith, r.most, e));
-      ahead = omega (arith, r.most);
-      fits = omega (arith, d.few);
-    }))
-    (λ w.
-    let r = by-gap j in
-    rw w.shift-is (record { progress = λ e. max-goes l.loop-s.s i.loop-k.k (d.fresh (omega (arith, w.if-q-gt0.false))) r e; ahead = r.least; fits = omega (arith, r.most) }))
-    g.if-q-gt0.branch-raw
+    (λ h. let r = by-border j in rw (border h) (kmp-goes l.loop-s.s i.loop-k.k (w.carried h) r (omega (arith, r.most, e, border h))))
+    (λ h. rw (gap h) (max-goes l.loop-s.s i.loop-k.k (w.fresh (omega (arith, h))) (by-gap j) (omega (arith, e, gap h))))
+    (cases_lt 0 l.loop-s.q)
 
 -- the search is over: its total and its comparisons, and the lent list
 over : (d : tie.Left-loop-s invariant-loop-k decreases-loop-k invariant-loop-s decreases-loop-s) → let l = d.before in Over improved_fjs (P l) (T l) (start l).args.list.now l.loop-s.total d.loop-s-test.compared l.loop-s.list
@@ -149,7 +136,7 @@ over d =
     (λ w. rw w.compared-is (past l.loop-s.invariant.0 (omega (arith, w.loop-s-test.false))))
     (λ w.
     let i : tie.In-loop-s invariant-loop-k decreases-loop-k invariant-loop-s decreases-loop-s = record { before = l; loop-s-test = w.loop-s-test } in
-    rw w.compared-is (sunday-over l.loop-s.s (gap-differs l.loop-s.invariant.0 (within i) w.if-q-eq0.true (λ e. w.if-first-text.true (as-gap l e))) (omega (arith, w.if-n-s.true))))
+    rw w.compared-is (sunday-over l.loop-s.s (gap-differs l.loop-s.invariant.0 (within i) w.if-q-eq0.true (λ e. w.if-first-text.true (as-gap l e))) (omega arith)))
     d.loop-s-test.branch-raw
 
 shared-slice-read-first : tie.Need-bounds-pattern-gap invariant-loop-k decreases-loop-k invariant-loop-s decreases-loop-s
@@ -282,22 +269,28 @@ cast-shift-2 : tie.Need-overflow_cast-shift-else-q-gt0 invariant-loop-k decrease
 cast-shift-2 c = let j = c.before.before in omega (arith, (by-gap j).most, (outer (inner j)).loop-s.invariant.0.short)
 
 add-s-3 : tie.Need-overflow_add-s-in-loop-s invariant-loop-k decreases-loop-k invariant-loop-s decreases-loop-s
-add-s-3 c = let g = c.before in let p = (outer (inner g.before)).loop-s.invariant.0 in omega (arith, (moved g).fits, p.short, p.small)
+add-s-3 c = let j = c.before.before in let p = (outer (inner j)).loop-s.invariant.0 in grind (arith, (by-border j).most, (by-gap j).least, (by-gap j).most, (stepped j).few, p.short, p.small)
 
 sub-q : tie.Need-overflow_sub-q invariant-loop-k decreases-loop-k invariant-loop-s decreases-loop-s
 sub-q c = omega arith
 
 loop-less-2 : tie.Need-loop-s-smaller-then-shift-k invariant-loop-k decreases-loop-k invariant-loop-s decreases-loop-s
-loop-less-2 c = omega (arith, (moved c.before.before).ahead)
+loop-less-2 c = let j = c.before.before.before in grind (arith, (by-border j).most, (by-gap j).least, (by-gap j).most, (stepped j).few)
 
 loop-again-2 : tie.Need-loop-s-preserved-then-shift-k invariant-loop-k decreases-loop-k invariant-loop-s decreases-loop-s
-loop-again-2 c = let g = c.before.before in let m = moved g in (m.progress (omega (arith, c.if-shift-k.true)), omega (arith, m.fits, within (inner g.before).before.before))
+loop-again-2 c =
+    let j = c.before.before.before in
+    let h = within (inner j).before.before in
+    (moved j (λ x. grind arith) (λ x. grind arith) (omega arith), grind (arith, (by-border j).most, (by-gap j).least, (by-gap j).most, (stepped j).few, h))
 
 loop-less-3 : tie.Need-loop-s-smaller invariant-loop-k decreases-loop-k invariant-loop-s decreases-loop-s
-loop-less-3 c = omega (arith, (moved c.before.before).ahead)
+loop-less-3 c = let j = c.before.before.before in grind (arith, (by-border j).most, (by-gap j).least, (by-gap j).most, (stepped j).few)
 
 loop-again-3 : tie.Need-loop-s-preserved invariant-loop-k decreases-loop-k invariant-loop-s decreases-loop-s
-loop-again-3 c = let g = c.before.before in let m = moved g in (m.progress (omega (arith, c.if-shift-k.false)), omega (arith, m.fits, within (inner g.before).before.before))
+loop-again-3 c =
+    let j = c.before.before.before in
+    let h = within (inner j).before.before in
+    (moved j (λ x. grind arith) (λ x. grind arith) (omega arith), grind (arith, (by-border j).most, (by-gap j).least, (by-gap j).most, (stepped j).few, h))
 
 cast-found : tie.Need-overflow_cast-found invariant-loop-k decreases-loop-k invariant-loop-s decreases-loop-s
 cast-found c = omega (arith, total-small (over c).progress)

@@ -1,10 +1,11 @@
 -- `naive::find` meets its contract. The loop's invariant is the run's progress (`matching`); the inner loop reaches as far from letter k + 1 on as from the first. Assumes nothing.
 use mathlib.Core.Path.{◌≡◌, refl, sym}
 use mathlib.Core.Logic.{⊎_elim}
-use Prim.Native.Nat.{ℕ, ◌+◌, ◌-◌, ◌≤◌}
+use Prim.Native.Nat.{ℕ, ◌+◌, ◌-◌, ◌≤◌, ◌<◌}
 use native.Mathlib.Omega.{arith}
 use mathlib.Core.List.{List}
-use lib.ListN.{length}
+use lib.ListN.{length, set}
+use Rattle.std.proofs.lemmas.Bool.{cases_lt}
 use Rattle.matching.specs.Letters.{reach}
 use Rattle.matching.specs.Machine.{at}
 use Rattle.matching.proofs.Letters.{reach-nothing, Upward, up_first, up_next, up-stops, up_ends}
@@ -50,18 +51,16 @@ allowed e = accepted e.before.refused-refusal.ensures e.if-refusal-ne0.false
 reached : (d : tie.Left-loop-k invariant-loop-k decreases-loop-k invariant-loop-s decreases-loop-s) → let i = d.before in let l = outer i in i.loop-k.k ≡ reach (P l) (T l) l.loop-s.s 0
 reached d = let u = d.before.loop-k.invariant in ⊎_elim (λ w. up_ends u (omega arith) w.loop-k-test.false) (λ w. up-stops u (omega arith) w.loop-k-test.true w.if-pattern-k.true) d.loop-k-test.branch-raw
 
--- one window done, whether it reports or not
-stepped : (c : tie.Joined-k-m invariant-loop-k decreases-loop-k invariant-loop-s decreases-loop-s)
-    → let l = outer c.before.before in Progress naive (P l) (T l) (call l.before).args.list.now (at (l.loop-s.s + 1) 0) c.if-k-m.total c.if-k-m.compared c.if-k-m.list
-unfolding window
-stepped c =
-    let i = c.before.before in
-    let p = (outer i).loop-s.invariant.0 in
-    let is = reached c.before in
-    ⊎_elim
-    (λ w. rw (w.list-is, w.total-is, w.compared-is) (miss-up p (omega arith) refl is (omega (arith, w.if-k-m.true)) (omega arith)))
-    (λ w. rw (w.list-is, w.total-is, w.compared-is, w.store.ensures) (hit-up p (omega arith) refl is (omega (arith, w.if-k-m.false, i.loop-k.invariant.upto)) (omega arith)))
-    c.if-k-m.branch-raw
+-- one window done, whether it reports or not, told by how many letters are equal
+module _ {P T list₀ list : List ℕ} {s total compared k : ℕ} (p : Progress naive P T list₀ (at s 0) total compared list) (inside : s + length P ≤ length T) where
+  stepped : {t c : ℕ} {l : List ℕ} → k ≡ reach P T s 0 → k ≤ length P → (k < length P → (l ≡ list) × ((t ≡ total) × (c ≡ compared + k + 1)))
+      → (length P ≤ k → (l ≡ set list total s) × ((t ≡ total + 1) × (c ≡ compared + k))) → Progress naive P T list₀ (at (s + 1) 0) t c l
+  unfolding window
+  stepped is upto part all =
+      ⊎_elim
+      (λ h. let e = part h in rw (e.0, e.1.0, e.1.1) (miss-up p inside refl is h (omega arith)))
+      (λ h. let e = all h in rw (e.0, e.1.0, e.1.1) (hit-up p inside refl is (omega arith) (omega arith)))
+      (cases_lt k (length P))
 
 refused-requires : tie.Need-refused-refusal-requires invariant-loop-k decreases-loop-k invariant-loop-s decreases-loop-s
 refused-requires c κs = omega arith
@@ -141,7 +140,10 @@ loop-less-2 : tie.Need-loop-s-smaller invariant-loop-k decreases-loop-k invarian
 loop-less-2 c = omega arith
 
 loop-again-2 : tie.Need-loop-s-preserved invariant-loop-k decreases-loop-k invariant-loop-s decreases-loop-s
-loop-again-2 c = (stepped c, omega (arith, (outer c.before.before).loop-s.invariant.0.sound.some))
+loop-again-2 c =
+    let i = c.before.before in
+    let p = (outer i).loop-s.invariant.0 in
+    (stepped p (omega arith) (reached c.before) i.loop-k.invariant.upto (λ h. grind (arith, h)) (λ h. grind (arith, h)), omega (arith, p.sound.some))
 
 cast-found : tie.Need-overflow_cast-found invariant-loop-k decreases-loop-k invariant-loop-s decreases-loop-s
 cast-found c = omega (arith, total-small c.before.loop-s.invariant.0)
