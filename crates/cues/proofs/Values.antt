@@ -3,7 +3,7 @@
 use mathlib.Core.Path.{◌≡◌, refl, sym, ap, ap₂, ◌∙◌}
 use Prim.Native.Nat.{ℕ, ◌+◌, ◌*◌, ◌/◌, ◌%◌, ◌<◌}
 use native.Mathlib.Omega.{arith}
-use mathlib.Core.Bool.{true, false, cond, false≢true}
+use mathlib.Core.Bool.{false, cond, false≢true}
 use mathlib.Core.List.{List, [], ◌∷◌, ◌++◌}
 use lib.ListN.{length, get_or}
 use lib.Dec.{eqb, leb}
@@ -13,7 +13,7 @@ use Rattle.matching.proofs.Refusals.{Passed, numbers_to, all-passed}
 use Rattle.matching.proofs.CaseAnalysis.{by-test, both}
 use Rattle.calendar.specs.Calendar.{days_refusal}
 use Rattle.cue_fields.specs.declared.Due.TheVariants.{Phrase, Ordinal, Title, Dates, House}
-use Rattle.cue_fields.specs.Field.{two_bytes, number_in, first_in, last_in, mark_in, value_tests}
+use Rattle.cue_fields.specs.Field.{two_bytes, number_in, first_in, last_in, value_tests}
 use Rattle.cue_fields.specs.Form.{due_size, due_body, after_due, form_bodies, form_bytes, Sound, AllSound, Other, Told, Bytes}
 use Rattle.cue_fields.proofs.Form.{two-number, form-back, form-put, bytes_drop, number-most, body_bytes}
 use Rattle.cues.specs.declared.Days.{Days}

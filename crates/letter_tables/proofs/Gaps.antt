@@ -9,7 +9,7 @@ use lib.Dec.{eqb, ltb}
 use borrow.Author.Tests.{eqb-true, eq-eqb, ne_eqb, ltb-true, ltb-false, lt-ltb, le-ltb}
 use Rattle.matching.proofs.CaseAnalysis.{by-test, at_same}
 use Rattle.matching.proofs.Occurrences.{Stands}
-use Rattle.tables.specs.Tables.{largest, least}
+use Rattle.tables.specs.Tables.{largest}
 use Rattle.letter_tables.specs.BadCharacter.{last_in}
 use Rattle.letter_tables.specs.Gaps.{gap, widest, md, widest_at, mdp, widest_gap, gap_found}
 use Rattle.tables.proofs.Tables.{largest-le, largest-holds, least-low, least-most, least-none, least-is}

@@ -1,7 +1,7 @@
 -- `line_column::byte_at` meets its contract: the byte, or 0 past the text's end. Assumes nothing.
-use mathlib.Core.Path.{◌≡◌, refl, sym}
+use mathlib.Core.Path.{refl, sym}
 use native.Mathlib.Omega.{arith}
-use lib.ListN.{get_or, get_or-eq_default}
+use lib.ListN.{get_or-eq_default}
 use Rattle.line_column.proofs.byte_at.Statement.{statement}
 use Rattle.line_column.proofs.byte_at.Tie as tie
 
