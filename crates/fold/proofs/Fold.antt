@@ -7,6 +7,7 @@ use mathlib.Core.Bool.{Bool, true, false, cond, not, ◌&&◌, false≢true}
 use mathlib.Core.List.{List, [], ◌∷◌, ◌++◌, map, map-append}
 use lib.ListN.{length, take, length-map}
 use lib.Dec.{eqb, leb}
+use Rattle.std.proofs.lemmas.Bool.{cases_lt}
 use borrow.Author.Tests.{le-leb, lt-leb, leb-true, eq-eqb, ne_eqb, eqb-true, eqb-false, not-true}
 use Rattle.matching.specs.Received.{received}
 use Rattle.matching.proofs.CaseAnalysis.{by-test, both, either}
@@ -35,13 +36,16 @@ unfolding capital
 not-between c e z = false≢true (sym (ap capital z) ∙ e)
 
 -- what a letter folds to, by where it lies
-pub folded-low : (c : ℕ) → 65 ≤ c → c ≤ 90 → c + 32 ≡ folded c
+folded-low : (c : ℕ) → 65 ≤ c → c ≤ 90 → c + 32 ≡ folded c
 unfolding folded capital
 folded-low c l h = sym (rw (le-leb 65 c l, le-leb c 90 h) refl)
 
-pub folded-high : (c : ℕ) → 192 ≤ c → c ≤ 222 → (c ≡ 215 → ⊥) → c + 32 ≡ folded c
+folded-high : (c : ℕ) → 192 ≤ c → c ≤ 222 → (c ≡ 215 → ⊥) → c + 32 ≡ folded c
 unfolding folded capital
 folded-high c l h n = sym (rw (lt-leb c 90 (omega arith), le-leb 65 c (omega arith), le-leb 192 c l, le-leb c 222 h, ne_eqb c 215 n) refl)
+
+pub folded-capital : (c : ℕ) → 65 ≤ c → (90 < c → 192 ≤ c) → c ≤ 222 → (c ≡ 215 → ⊥) → c + 32 ≡ folded c
+folded-capital c l m h n = ⊎_elim (λ r. folded-high c (m r) h n) (λ r. folded-low c l r) (cases_lt 90 c)
 
 pub folded-other : (c : ℕ) → (65 ≤ c → c ≤ 90 → ⊥) → (192 ≤ c → c ≤ 222 → (c ≡ 215 → ⊥) → ⊥) → c ≡ folded c
 unfolding folded
