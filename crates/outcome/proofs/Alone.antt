@@ -12,7 +12,7 @@ use Rattle.matching.proofs.CaseAnalysis.{by-test, neither}
 use Rattle.matching.proofs.Those.{those-append, those-few}
 use Rattle.roles.specs.Roles.{guest}
 use Rattle.cues.specs.Cue.{Cue, plays_on}
-use Rattle.cue_book.specs.Reading.{cues, playing, seen, playing_for}
+use Rattle.cue_book.specs.Reading.{cues, playing, seen}
 use Rattle.outcome.specs.Outcome.{Numbered, chosen_from, chosen, cues_of, place_of, cue_fault, Judged, judge, entries_of, reads_of, resolution, Call, call_refusal, Outcome, refusing, with_cues, with_book, outcome}
 use Rattle.outcome.specs.Told.{Another, open_cues, SameCue, names_cue, PlayingAlone}
 use Rattle.outcome.proofs.Choosing.{chosen-cues, length-chosen, playing-twice, names, guest-sees, alone-seen}

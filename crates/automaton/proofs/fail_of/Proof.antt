@@ -7,7 +7,6 @@ use Rattle.tries.proofs.Linking.{parent-below, failed-root, link-below, stepping
 use Rattle.tries.proofs.Steps.{state-leads}
 use Rattle.automaton.proofs.fail_of.Statement.{statement}
 use Rattle.automaton.proofs.fail_of.Tie as tie
-use Rattle.automaton.proofs.row_step.Reads as row-step-reads
 
 mul-parent : tie.Need-overflow_mul-parent
 mul-parent c = search rules

@@ -9,10 +9,6 @@ use Rattle.tries.specs.Links.{Linking}
 use Rattle.tries.proofs.Finishing.{root-rowable, making-first}
 use Rattle.automaton.proofs.finish.Statement.{statement}
 use Rattle.automaton.proofs.finish.Tie as tie
-use Rattle.automaton.proofs.base_row.Reads as base-row-reads
-use Rattle.automaton.proofs.link_rest.Reads as link-rest-reads
-use Rattle.automaton.proofs.link_rows.Reads as link-rows-reads
-use Rattle.automaton.proofs.row_count.Reads as row-count-reads
 
 fits : {rows long long₁ : ℕ} → rows ≤ long₁ - 33032 → long₁ ≡ long → 37129 ≤ long → 33032 + rows ≤ long₁
 fits a e h = omega arith

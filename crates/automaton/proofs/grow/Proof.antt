@@ -14,7 +14,6 @@ use Rattle.phrases.proofs.Group.{phrases-count, phrase-long}
 use Rattle.tries.proofs.Levels.{grows-first, grown}
 use Rattle.automaton.proofs.grow.Statement.{statement}
 use Rattle.automaton.proofs.grow.Tie as tie
-use Rattle.automaton.proofs.grow_level.Reads as grow-level-reads
 
 abbrev invariant-loop-d : tie.invariant-loop-d
 invariant-loop-d t₀ at₀ folds book starts lens deepest n₀ d₀ t at n d = (d ≤ deepest) × ((length t ≡ length t₀) × ((length at ≡ length at₀) × Growing (phrases_in (table folds) book starts lens) t at n d 0))

@@ -8,7 +8,6 @@ use Rattle.tries.specs.Rows.{Making}
 use Rattle.tries.proofs.Finishing.{Passing, passing-linked}
 use Rattle.automaton.proofs.link_rest.Statement.{statement}
 use Rattle.automaton.proofs.link_rest.Tie as tie
-use Rattle.automaton.proofs.fail_of.Reads as fail-of-reads
 
 abbrev invariant-loop-x : tie.invariant-loop-x
 invariant-loop-x t₀ w count n x₀ t x = (count ≤ x) × ((x ≤ n) × Passing t₀ w count count n t x count)

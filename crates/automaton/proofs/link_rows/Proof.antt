@@ -9,8 +9,6 @@ use Rattle.tries.proofs.Filling.{fillable-same, rowable}
 use Rattle.tries.proofs.Finishing.{Passing, passing-linked, making-rowed}
 use Rattle.automaton.proofs.link_rows.Statement.{statement}
 use Rattle.automaton.proofs.link_rows.Tie as tie
-use Rattle.automaton.proofs.base_row.Reads as base-row-reads
-use Rattle.automaton.proofs.fail_of.Reads as fail-of-reads
 
 abbrev invariant-loop-x : tie.invariant-loop-x
 invariant-loop-x t₀ w count x₀ t x = (1 ≤ x) × ((x ≤ count) × Passing t₀ w count 1 count t x x)

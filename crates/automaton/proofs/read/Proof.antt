@@ -6,8 +6,6 @@ use Rattle.tries.specs.Links.{bits_at}
 use Rattle.tries.proofs.Steps.{step_is}
 use Rattle.automaton.proofs.read.Statement.{statement}
 use Rattle.automaton.proofs.read.Tie as tie
-use Rattle.automaton.proofs.bits_of.Reads as bits-of-reads
-use Rattle.automaton.proofs.row_step.Reads as row-step-reads
 
 row-step-requires : tie.Need-row_step-state-requires
 row-step-requires c κs = let p = c.requires in record { phrases = p.phrases; names = p.names; done = length p.names; linked = p.rowed.linking.linked; rows = p.rowed.rows; some = p.rowed.some; inside = p.inside; byte = omega (arith, c.ranges.c) }

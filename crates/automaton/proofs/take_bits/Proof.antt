@@ -1,6 +1,6 @@
 -- `automaton::take_bits` meets its contract: the bits in b are still to be taken. The measure is b. Assumes nothing.
 use mathlib.Core.Path.{sym, ◌∙◌}
-use Prim.Native.Nat.{◌-◌, ◌≤◌, ◌<◌}
+use Prim.Native.Nat.{◌≤◌, ◌<◌}
 use native.Mathlib.Omega.{arith}
 use lib.ListN.{length, get_or}
 use lib.Count.{count_trailing_zeros}

@@ -7,7 +7,6 @@ use lib.ListN.{length, get_or}
 use Rattle.automaton.proofs.Walks.{Walking, walking_start, next-counters, walking-next, walking-done}
 use Rattle.automaton.proofs.walk.Statement.{statement}
 use Rattle.automaton.proofs.walk.Tie as tie
-use Rattle.automaton.proofs.take_bits.Reads as take-bits-reads
 
 abbrev invariant-loop-i : tie.invariant-loop-i
 invariant-loop-i t w count text lens left₀ place₀ s₀ i₀ left place s i = Walking t w count text lens left₀ place₀ left place s i

@@ -10,11 +10,6 @@ use Rattle.matching.proofs.CaseAnalysis.{any, beyond}
 use Rattle.find.specs.Find.{engine_of, Answered}
 use Rattle.find.proofs.find.Statement.{statement}
 use Rattle.find.proofs.find.Tie as tie
-use Rattle.fjs.proofs.find.Reads as find-reads'
-use Rattle.horspool.proofs.find.Reads as find-reads''
-use Rattle.kmp.proofs.find.Reads as find-reads'''
-use Rattle.naive.proofs.find.Reads as find-reads''''
-use Rattle.sunday.proofs.find.Reads as find-reads'''''
 
 -- the method is k, and k's engine found
 by-engine : (k : ℕ) {method : ℕ} {P T scratch list : List ℕ} {r : Finding} {scratch' list' : List ℕ} → method ≡ k → k ≤ 7 → Found (engine_of k) P T scratch list r scratch' list'
