@@ -31,7 +31,7 @@ $(archive): $(proved)
 
 # `rt run` proves and builds a program and then runs it, here on no input.
 $(programs): $(proved)
-	cd $(@D)/.. && rt run < /dev/null > /dev/null
+	cd crates/$(@F) && rt run < /dev/null > /dev/null
 	@touch $@
 
 install: all libretto.pc.in

@@ -1,5 +1,5 @@
 // The finder program of document 01: it reads standard input and writes what is printed for it.
-// It depends on `finder_output`, whose contract says what that is for every input, and on `io` and `libc` to read and write.
+// It depends on `finder_output`, whose contract says what that is for every input, and on `io` to read and write.
 #![tactic(auto)]
 
 // An input above 33,793 bytes is refused, so one byte more than that is enough to read. The output holds all that is ever printed (`printed-fits` of `finder_output`), so the

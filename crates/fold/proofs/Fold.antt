@@ -29,7 +29,6 @@ ranges c e =
     inr (leb-true 192 c p.0, leb-true c 222 p.1))
     refl
 
--- so 32 more is a letter still, and one that stays
 -- the letter between the ranges is no capital
 not-between : (c : ℕ) → capital c ≡ true → c ≡ 215 → ⊥
 unfolding capital
@@ -55,6 +54,7 @@ folded-other c low high =
     (λ _ _. refl)
     refl
 
+-- 32 more than a capital is a letter still, and one that stays
 pub capital-below : (c : ℕ) → capital c ≡ true → c ≤ 222
 capital-below c e = ⊎_elim (λ r. omega (arith, r.1)) (λ r. r.1) (ranges c e)
 

@@ -1,5 +1,5 @@
 // This crate is the C interface: each function is exported under the name that include/libretto.h gives it, and carries the exact contract of what it wraps.
-// `rt staticlib libretto` makes the archive that C and Rust link.
+// It is a static library: `rt lib` in its folder makes the archive that C and Rust link.
 // It depends on `find`, `fjs`, `late_cuts`, `fold`, `calendar`, `book_calls` and `resolver` for what it exports, on `fjs_steps`, `cuts`, `cues`, `cue_book`, `cue_writer`, `plain`, `retitle` and `roles` for what a find by FJS, a cut, a cue, a part of a book, a cue that is written, a cue as numbers, a book with another title and what a role may do are, and on `matching` for a finding and an answer.
 #![tactic(auto)]
 

@@ -1,6 +1,6 @@
 // This program prints the 256 entries of page 15's fold from its rule (document 02, (iv)): sixteen to a line, in decimal, one space between, each line ended by byte 10.
 // It does not look at the table of `fold`: the gate holds the two together, number by number.
-// It depends on `fold` for page 1's letters and the rule, on `matching` for the answer that folding gives, on `pieces` and `finder_lines` to lay the numbers out, and on `io` and `libc` to write.
+// It depends on `fold` for page 1's letters and the rule, on `matching` for the answer that folding gives, on `pieces` and `finder_lines` to lay the numbers out, and on `io` to write.
 #![tactic(auto)]
 
 ghost use Rattle.std.specs.Prelude.{◌≡◌, ◌∷◌, []};

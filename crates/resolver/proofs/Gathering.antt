@@ -147,12 +147,12 @@ module _ {who : Choice} {book : List ℕ} {number place index at : ℕ} (r : Rem
           passed = s.passed;
         }
 
-    module _ (Seen-Here : sees who.role mark ≡ true) where
+    module _ (seen-here : sees who.role mark ≡ true) where
       -- the role sees it, and then the others
       first-seen : chosen_at who book number place ≡ chosen_from who.day index (next.cue ∷ seen who.role next.later)
       first-seen =
           s.same
-          ∙ ap (chosen_from who.day index) (ap (seen who.role) next.is ∙ those-next (seen_by who.role) next.cue next.later (sym (mark-read next c who.role) ∙ Seen-Here))
+          ∙ ap (chosen_from who.day index) (ap (seen who.role) next.is ∙ those-next (seen_by who.role) next.cue next.later (sym (mark-read next c who.role) ∙ seen-here))
 
       -- it does not play
       pub skips-more : days_hold who.day days ≡ false → Skips who book number place (index + 1) end

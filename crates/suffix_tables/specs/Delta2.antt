@@ -15,7 +15,7 @@ fits P j k =
     every (length P - j) j (λ i. leb i k || eqb (letter P (i - k)) (letter P i))
     && (leb j k || not (eqb (letter P (j - k)) (letter P j)))
 
--- the least such k with k ≥ 1; m is one, so it is the least of all (`Shift-rule` of proofs/Delta2.antt)
+-- the least such k with k ≥ 1; m is one, so it is the least of all (`shift_rule` of proofs/Delta2.antt)
 unfoldable pub shift : List ℕ → ℕ → ℕ
 unfolding least fits
 shift P j = least (length P) 1 (fits P j)
