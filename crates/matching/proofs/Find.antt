@@ -8,7 +8,11 @@ use mathlib.Core.List.{List}
 use lib.ListN.{length}
 use lib.Dec.{eqb}
 use borrow.Author.Tests.{eqb-true, eq-eqb, ne_eqb, eqb-false, ltb-false, le-ltb, lt-ltb}
+use Rattle.std.proofs.Common.{Err}
 use Rattle.matching.specs.declared.Finding.{Finding}
+use Rattle.matching.specs.declared.refusal.Refusal.{Refusal}
+use Rattle.matching.specs.declared.refusal.Refusal.TheVariants.{UnknownMethod, NoPhrase, LongPhrase, LongText, ShortScratch, ShortBuffer, CutField, WrongTag, BadField, LongBook, ShortEntries, NoOccurrence, LongCue, UnknownPage, NotForward, BadDate, BadStretch, BadList, NotAllowed}
+use Rattle.matching.specs.Results.{number_of, finding}
 use Rattle.matching.specs.Occurrences.{occurrences}
 use Rattle.matching.specs.Received.{received}
 use Rattle.matching.specs.Refusals.{first_met}
@@ -50,6 +54,28 @@ pub refusal-most : (m n has needs : ℕ) → refusal m n has needs ≤ 5
 unfolding refusal numbers_to
 refusal-most m n has needs = met-most 5 (find_tests m n has needs) refl
 
+-- no refusal has the number 0
+pub number-some : (r : Refusal) → 1 ≤ number_of r
+number-some UnknownMethod = omega arith
+number-some NoPhrase = omega arith
+number-some LongPhrase = omega arith
+number-some LongText = omega arith
+number-some ShortScratch = omega arith
+number-some ShortBuffer = omega arith
+number-some CutField = omega arith
+number-some WrongTag = omega arith
+number-some BadField = omega arith
+number-some LongBook = omega arith
+number-some ShortEntries = omega arith
+number-some NoOccurrence = omega arith
+number-some LongCue = omega arith
+number-some UnknownPage = omega arith
+number-some NotForward = omega arith
+number-some BadDate = omega arith
+number-some BadStretch = omega arith
+number-some BadList = omega arith
+number-some NotAllowed = omega arith
+
 -- a pattern longer than the text, of any lengths: no window lies in the text, so no engine compares a pair
 pub longer-costs : (e : Engine) (P T : List ℕ) → length T < length P → compared e P T ≡ 0
 unfolding compared run_from compared_in
@@ -65,6 +91,10 @@ module _ {e : Engine} {P T scratch list : List ℕ} where
         left = rw off;
         listed = rw off;
       }
+
+  -- and so does one that is told by its name
+  pub found-err : (r : Refusal) → number_of r ≡ refusal_of e P T scratch → Found e P T scratch list (finding (Err r)) scratch list
+  found-err r is = found-refused is (λ z. omega (arith, number-some r))
 
   -- a find that is not refused: its answer and what it leaves
   pub found-accepted : refusal_of e P T scratch ≡ 0 → {total comparisons : ℕ} {scratch' list' : List ℕ} → total ≡ length (occurrences P T) → comparisons ≡ compared e P T

@@ -7,6 +7,7 @@ use mathlib.Core.List.{List, [], ◌∷◌}
 use lib.ListN.{length, get_or, take, drop, length-drop, drop_of_length-le}
 use lib.Seq.{drop-cons, get_or-drop}
 use lib.Dec.{eqb, ltb}
+use Rattle.std.proofs.Common.{add-one}
 use borrow.Author.Tests.{eqb-true, eqb-false, eq-eqb, ne_eqb, le-leb, lt-leb, ltb-true, ltb-false, lt-ltb, le-ltb}
 use Rattle.matching.specs.Occurrences.{occurs_at}
 use Rattle.matching.specs.Letters.{equal_pairs, equal_on, reach, equal_down, compared_down, looks}
@@ -20,6 +21,12 @@ unfolding equal_pairs
 pairs-le [] ys = omega arith
 pairs-le (x ∷ xs) [] = omega arith
 pairs-le (x ∷ xs) (y ∷ ys) = by-test (λ t. cond t (suc (equal_pairs xs ys)) 0 ≤ suc (length xs)) (eqb x y) (λ _. omega (arith, pairs-le xs ys)) (λ _. omega arith)
+
+pairs-le_second : (xs ys : List ℕ) → equal_pairs xs ys ≤ length ys
+unfolding equal_pairs
+pairs-le_second [] ys = omega arith
+pairs-le_second (x ∷ xs) [] = omega arith
+pairs-le_second (x ∷ xs) (y ∷ ys) = by-test (λ t. cond t (suc (equal_pairs xs ys)) 0 ≤ suc (length ys)) (eqb x y) (λ _. omega (arith, pairs-le_second xs ys)) (λ _. omega arith)
 
 pairs-meet : (xs ys : List ℕ) (i : ℕ) → i < equal_pairs xs ys → get_or xs i 0 ≡ get_or ys i 0
 unfolding equal_pairs
@@ -42,6 +49,19 @@ pairs-differ (x ∷ xs) (y ∷ ys) h k e =
     (λ _ h k e. pairs-differ xs ys (omega arith) (omega arith) e)
     (λ q h k e. eqb-false x y q e) h k e
 
+-- letter by letter from the front: k of them are equal, and those from there on
+pub pairs-next : (xs ys : List ℕ) (k : ℕ) → k < length xs → k < length ys → get_or xs k 0 ≡ get_or ys k 0 → equal_pairs (drop k xs) (drop k ys) ≡ suc (equal_pairs (drop (k + 1) xs) (drop (k + 1) ys))
+unfolding equal_pairs
+pairs-next xs ys k h l e = rw (add-one k, drop-cons xs k 0, drop-cons ys k 0, eq-eqb (get_or xs k 0) (get_or ys k 0) e)
+
+pub pairs-end : (xs ys : List ℕ) (k : ℕ) → k < length xs → k < length ys → (get_or xs k 0 ≡ get_or ys k 0 → ⊥) → equal_pairs (drop k xs) (drop k ys) ≡ 0
+unfolding equal_pairs
+pairs-end xs ys k h l n = rw (drop-cons xs k 0, drop-cons ys k 0, ne_eqb (get_or xs k 0) (get_or ys k 0) n)
+
+-- and at the end of either none
+pub pairs-over : (xs ys : List ℕ) (k : ℕ) → min (length xs) (length ys) ≤ k → equal_pairs (drop k xs) (drop k ys) ≡ 0
+pairs-over xs ys k h = omega (arith, pairs-le (drop k xs) (drop k ys), pairs-le_second (drop k xs) (drop k ys), length-drop k xs, length-drop k ys)
+
 -- of the first k letters of one list: as many, and at most k
 pub pairs-take : (k : ℕ) (xs ys : List ℕ) → equal_pairs (take k xs) ys ≡ min k (equal_pairs xs ys)
 unfolding equal_pairs
@@ -51,7 +71,25 @@ pairs-take (suc k) (x ∷ xs) [] = omega arith
 pairs-take (suc k) (x ∷ xs) (y ∷ ys) =
     by-test (λ t. cond t (suc (equal_pairs (take k xs) ys)) 0 ≡ min (suc k) (cond t (suc (equal_pairs xs ys)) 0)) (eqb x y) (λ _. omega (arith, pairs-take k xs ys)) (λ _. omega arith)
 
+-- and of the first k letters of the other
+pairs-take_second : (k : ℕ) (xs ys : List ℕ) → equal_pairs xs (take k ys) ≡ min k (equal_pairs xs ys)
+unfolding equal_pairs
+pairs-take_second zero [] ys = omega arith
+pairs-take_second zero (x ∷ xs) ys = omega arith
+pairs-take_second (suc k) [] ys = omega arith
+pairs-take_second (suc k) (x ∷ xs) [] = omega arith
+pairs-take_second (suc k) (x ∷ xs) (y ∷ ys) =
+    by-test (λ t. cond t (suc (equal_pairs xs (take k ys))) 0 ≡ min (suc k) (cond t (suc (equal_pairs xs ys)) 0)) (eqb x y) (λ _. omega (arith, pairs-take_second k xs ys)) (λ _. omega arith)
+
 -- ---- first to last
+
+-- what `compare_up` finds in the parts of P from letter q + 1 to letter `until`, and of T from s + q on, as long at least
+pub reach-until : (P T : List ℕ) (s q until : ℕ) {k j : ℕ} → q ≤ until → until - q ≤ j → k ≡ equal_pairs (take (until - q) (drop q P)) (take j (drop (s + q) T)) → q + k ≡ min until (reach P T s q)
+unfolding equal_on
+reach-until P T s q until {k} {j} from long is =
+    let rest : List ℕ = drop (s + q) T in
+    let first : equal_pairs (take (until - q) (drop q P)) (take j rest) ≡ min (until - q) (equal_pairs (drop q P) (take j rest)) = pairs-take (until - q) (drop q P) (take j rest) in
+    omega (arith, is, first, pairs-take_second j (drop q P) rest)
 
 -- the first r letters of P stand at s
 unfoldable pub Meets : List ℕ → List ℕ → ℕ → ℕ → Type 0
@@ -66,6 +104,10 @@ unfolding equal_on
 reach-le P T s q h = omega (arith, pairs-le (drop q P) (drop (s + q) T), length-drop q P)
 
 -- the letters reached are equal
+-- the same up to the pattern's end
+pub reach-compared : (P T : List ℕ) (s q : ℕ) {k j : ℕ} → q ≤ length P → length P - q ≤ j → k ≡ equal_pairs (take (length P - q) (drop q P)) (take j (drop (s + q) T)) → q + k ≡ reach P T s q
+reach-compared P T s q from long is = omega (arith, reach-until P T s q (length P) from long is, reach-le P T s q from)
+
 pub reach-meets : (P T : List ℕ) (s q : ℕ) → Meets P T s q → Meets P T s (reach P T s q)
 unfolding Meets equal_on
 reach-meets P T s q m i h =
@@ -112,6 +154,13 @@ reach-first P T s h l e = reach-equal P T s 0 (omega arith) (omega arith) (e ∙
 
 pub reach-nothing : (P T : List ℕ) (s : ℕ) → 1 ≤ length P → s < length T → (get_or P 0 0 ≡ get_or T s 0 → ⊥) → reach P T s 0 ≡ 0
 reach-nothing P T s h l differs = reach-unequal P T s 0 (omega arith) (omega arith) (λ e. differs (e ∙ at_same T (omega arith)))
+
+-- where the first letter was looked at by itself, and is equal, and `compare_up` went on from the second: as many as were found, at most all
+pub reach-after_first : (P T : List ℕ) (s : ℕ) {k j : ℕ} → 1 ≤ length P → s < length T → get_or P 0 0 ≡ get_or T s 0 → length P - 1 ≤ j
+    → k ≡ equal_pairs (take (length P - 1) (drop 1 P)) (take j (drop (s + 1) T)) → (1 + k ≡ reach P T s 0) × (1 + k ≤ length P)
+reach-after_first P T s some inside first long is =
+    let from : 1 + _ ≡ reach P T s 1 = reach-compared P T s 1 some long is in
+    (omega (arith, from, reach-first P T s some inside first), omega (arith, from, reach-le P T s 1 some))
 
 pub reach-done : (P T : List ℕ) (s k : ℕ) → length P ≤ k → reach P T s k ≡ k
 unfolding equal_on equal_pairs

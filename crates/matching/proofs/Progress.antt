@@ -5,6 +5,8 @@ use Prim.Native.Nat.{ℕ, suc, ◌+◌, ◌-◌, ◌≤◌, ◌<◌}
 use native.Mathlib.Omega.{arith}
 use native.Mathlib.Nat.{mul-le-mul}
 use mathlib.Core.Bool.{true, false, cond}
+use mathlib.Core.Logic.{⊎_elim}
+use Rattle.std.proofs.lemmas.Bool.{cases_lt}
 use mathlib.Core.List.{List, [], ◌∷◌, ◌++◌, append-nil, append_assoc}
 use lib.ListN.{length, set, length-append}
 use borrow.Author.Tests.{eq-eqb, ne_eqb}
@@ -63,6 +65,10 @@ pub record Accepted (e : Engine) (P T scratch : List ℕ) : Type 0 where
 
 pub accepted : {e : Engine} {P T scratch : List ℕ} {number : ℕ} → number ≡ refusal_of e P T scratch → number ≡ 0 → Accepted e P T scratch
 accepted {e} {P} {T} {scratch} is zero = let none = sym is ∙ zero in record { none = none; limits = within (length P) (length T) (length scratch) (e.entries (length P)) none }
+
+-- the same of tests that gave no refusal, whose number is 0
+pub accepted-ok : {e : Engine} {P T scratch : List ℕ} → 0 ≡ refusal_of e P T scratch → Accepted e P T scratch
+accepted-ok is = accepted is refl
 
 -- before the first window, where the limits are kept
 pub begins : {e : Engine} {P T list : List ℕ} {has needs : ℕ} → Within (length P) (length T) has needs → (1 ≤ length P → Sound e.steps P T) → Progress e P T list (at 0 0) 0 0 list
@@ -141,6 +147,15 @@ module _ {e : Engine} {P T list₀ : List ℕ} {s q total compared : ℕ} {list 
     pub miss-up : k < length P → c + q ≡ compared + k + 1 → Progress e P T list₀ x total c list
     miss-up part sum = missed-as is (omega (arith, looks-part (length P - q) (equal_on P T s q) (omega arith))) (ne_eqb (reach P T s q) (length P) (λ f. omega arith))
 
+    -- both, told by how many letters are equal: a total t, comparisons c and a list l after the window
+    pub stepped-up : {t : ℕ} {l : List ℕ} → k ≤ length P → (k < length P → (l ≡ list) × ((t ≡ total) × (c + q ≡ compared + k + 1)))
+        → (length P ≤ k → (l ≡ set list total s) × ((t ≡ total + 1) × (c + q ≡ compared + k))) → Progress e P T list₀ x t c l
+    stepped-up upto part all =
+        ⊎_elim
+        (λ h. let w = part h in rw (w.0, w.1.0) (miss-up h w.1.1))
+        (λ h. let w = all h in rw (w.0, w.1.0) (hit-up (omega arith) w.1.1))
+        (cases_lt k (length P))
+
   -- of a window compared last to first from letter `count` down: k letters are equal, and the one before them, if there is one, is not
   module _ {x : State} {count k c : ℕ} (is : e.steps P T s q ≡ last_to_first P T s count x) (d : Downward P T s count k) where
     pub hit-down : count ≤ k → c ≡ compared + k → Progress e P T list₀ x (total + 1) c (set list total s)
@@ -152,6 +167,15 @@ module _ {e : Engine} {P T list₀ : List ℕ} {s q total compared : ℕ} {list 
     miss-down part sum =
         let n : equal_down P T s count < count = omega (arith, d.is) in
         missed-as is (omega (arith, d.is, looks-part count (equal_down P T s count) n)) (ne_eqb (equal_down P T s count) count (λ f. omega arith))
+
+    -- both, told by how many letters are equal
+    pub stepped-down : {t : ℕ} {l : List ℕ} → (k < count → (l ≡ list) × ((t ≡ total) × (c ≡ compared + k + 1)))
+        → (count ≤ k → (l ≡ set list total s) × ((t ≡ total + 1) × (c ≡ compared + k))) → Progress e P T list₀ x t c l
+    stepped-down part all =
+        ⊎_elim
+        (λ h. let w = part h in rw (w.0, w.1.0) (miss-down h w.1.1))
+        (λ h. let w = all h in rw (w.0, w.1.0) (hit-down h w.1.1))
+        (cases_lt k count)
 
 -- one window done, and moved by d with nothing carried: the engine is past it, and within the text
 pub record Stepped (e : Engine) (P T list₀ : List ℕ) (s d total compared : ℕ) (list : List ℕ) : Type 0 where
@@ -178,6 +202,18 @@ module _ {e : Engine} {P T list₀ : List ℕ} {x : State} {total compared : ℕ
   -- the list keeps its length
   pub same-list : length list ≡ length list₀
   same-list = ap length p.stored ∙ length-received _ _
+
+-- the progress of a run with these bounds, as a loop keeps it: its sums and casts need nothing more
+pub record Looping (e : Engine) (P T list₀ : List ℕ) (x : State) (total compared : ℕ) (list : List ℕ) : Type 0 where
+  pub progress : Progress e P T list₀ x total compared list
+  pub some : 1 ≤ length P
+  pub short : length P ≤ 1024
+  pub small : length T ≤ 32768
+  pub few : total ≤ 32769
+  pub looked : compared ≤ 33588225
+
+pub looping : {e : Engine} {P T list₀ : List ℕ} {x : State} {total compared : ℕ} {list : List ℕ} → Progress e P T list₀ x total compared list → Looping e P T list₀ x total compared list
+looping p = record { progress = p; some = p.sound.some; short = p.short; small = p.small; few = total-small p; looked = compared-small p }
 
 -- ---- the loop is over: nothing of the run is left
 

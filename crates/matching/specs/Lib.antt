@@ -4,5 +4,6 @@ pub mod Received
 pub mod Refusals
 pub mod Letters
 pub mod Machine
+pub mod Results
 pub mod Find
 pub mod Joined
