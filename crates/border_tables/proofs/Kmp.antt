@@ -4,10 +4,12 @@ use mathlib.Core.Path.{◌≡◌, sym, ◌∙◌}
 use Prim.Native.Nat.{ℕ, zero, suc, ◌+◌, ◌-◌, ◌≤◌, ◌<◌}
 use native.Mathlib.Omega.{arith}
 use mathlib.Core.Bool.{true≢false}
+use mathlib.Core.Logic.{⊎_elim}
 use mathlib.Core.List.{List}
 use lib.ListN.{length, get_or}
 use lib.Dec.{eqb, ltb}
 use borrow.Author.Tests.{eqb-true, eqb-false, ltb-true, ltb-false}
+use Rattle.std.proofs.lemmas.Bool.{cases_eq, cases_lt}
 use Rattle.matching.proofs.CaseAnalysis.{by-test, at_same}
 use Rattle.tables.specs.Tables.{largest, Entries}
 use Rattle.border_tables.specs.Kmp.{border, longest_border, strong, kmp_entry, kmp_made}
@@ -150,3 +152,15 @@ entry-same P q j l w h same =
           (λ y. d l (at_same P (eqb-true k (j - 1) y) ∙ same))
           (λ y. r.longest k s (omega (arith, eqb-false k (j - 1) y)) (border-nested P q (j - 1) k low (omega arith) (w.border h) b) (λ _ g. d l (g ∙ same))));
     })
+
+-- so the entry is b[j] where there is a letter q + 1 and it is letter j, and j where not
+pub entry-next : (P : List ℕ) (q j b v : ℕ) → Longest P q j → 1 ≤ j → q ≤ length P → b ≡ kmp_entry P (j - 1) → (q < length P → get_or P q 0 ≡ get_or P (j - 1) 0 → v ≡ b)
+    → ((q < length P → get_or P q 0 ≡ get_or P (j - 1) 0 → ⊥) → v ≡ j) → v ≡ kmp_entry P q
+entry-next P q j b v w h l is same other =
+    ⊎_elim
+    (λ less. ⊎_elim (λ e. same less e ∙ is ∙ sym (entry-same P q j less w h (sym e))) (λ d. last (λ _ e. d e)) (cases_eq (get_or P q 0) (get_or P (j - 1) 0)))
+    (λ most. last (λ less _. absurd (omega arith)))
+    (cases_lt q (length P))
+  where
+    last : (q < length P → get_or P q 0 ≡ get_or P (j - 1) 0 → ⊥) → v ≡ kmp_entry P q
+    last differs = other differs ∙ sym (entry-longest P q j l w (λ less e. differs less (sym e)))

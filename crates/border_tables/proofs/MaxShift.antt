@@ -1,18 +1,19 @@
 -- The shifts of the improved engine, from their rule alone: which of the two a shift is (`shift-cases`), the values it can have, and the table as engines read it. Assumes nothing.
-use mathlib.Core.Path.{◌≡◌, ◌∙◌}
-use Prim.Native.Nat.{ℕ, ◌+◌, ◌≤◌, ◌<◌, max}
+use mathlib.Core.Path.{◌≡◌, sym, ◌∙◌}
+use Prim.Native.Nat.{ℕ, ◌+◌, ◌-◌, ◌≤◌, ◌<◌, max}
 use mathlib.Core.Logic.{◌⊎◌, inl, inr, ⊎_elim}
 use native.Mathlib.Omega.{arith}
 use mathlib.Core.List.{List}
 use lib.ListN.{length, get_or, length-append}
 use lib.Dec.{eqb, ltb, leb}
 use borrow.Author.Tests.{eqb-true, eqb-false, ltb-true, ltb-false, leb-true, leb-false, le-leb, lt-leb}
+use Rattle.std.proofs.lemmas.Bool.{cases_lt}
 use Rattle.matching.proofs.CaseAnalysis.{by-test}
 use Rattle.tables.specs.Tables.{Entries}
 use Rattle.letter_tables.specs.Gaps.{md}
 use Rattle.border_tables.specs.Kmp.{kmp_entry, kmp_table}
 use Rattle.border_tables.specs.MaxShift.{kmp_shift, max_shift, max_shift_table, border_tables, max_shift_made}
-use Rattle.tables.proofs.Tables.{length-tabulate, Reads, made-short, made-long}
+use Rattle.tables.proofs.Tables.{length-tabulate, then, tabulate-then, Ruled, made-kept, ruled-made, Reads}
 use Rattle.letter_tables.proofs.Gaps.{widest-le, md-pos}
 use Rattle.border_tables.proofs.Borders.{border-zero}
 use Rattle.border_tables.proofs.Kmp.{kmp_entry-le, kmp_entry-rule}
@@ -71,19 +72,38 @@ module _ (P : List ℕ) (q : ℕ) where
   pub max_shift-le : q ≤ length P → max_shift P q ≤ max 1 (length P)
   max_shift-le h = ⊎_elim (λ w. omega (arith, w.0, widest-le P (length P))) (λ w. omega (arith, w, kmp_shift-le P q h)) shift-cases
 
+-- a shift as the maker finds it, by the entry b and the widest gap
+pub shift-next : (P : List ℕ) (q b width v : ℕ) → b ≡ kmp_entry P q → width ≡ md P → (q - b + 1 ≤ width → q ≤ width → v ≡ width) → ((q - b + 1 ≤ width → q ≤ width → ⊥) → v ≡ q - b + 1) → v ≡ max_shift P q
+shift-next P q b width v is md-is wide other =
+    let by : q - b + 1 ≡ kmp_shift P q = omega (arith, kmp_entry-le P q) in
+    ⊎_elim
+    (λ a. other (λ h _. absurd (omega arith)) ∙ by ∙ sym (shift-more P q (omega arith)))
+    (λ a.
+    ⊎_elim
+    (λ b. other (λ _ h. absurd (omega arith)) ∙ by ∙ sym (shift-deep P q (omega arith) (omega arith)))
+    (λ b. wide (omega arith) (omega arith) ∙ md-is ∙ sym (shift-wide P q (omega arith) (omega arith)))
+    (cases_lt (md P) q))
+    (cases_lt (md P) (kmp_shift P q))
+
 -- ---- the table: as its maker leaves it, and an entry as an engine reads it
 
 pub border_tables-length : (P : List ℕ) → length (border_tables P) ≡ (length P + 1) + (length P + 1)
 border_tables-length P = length-append (kmp_table P) (max_shift_table P) ∙ omega (arith, length-tabulate (length P + 1) (kmp_entry P), length-tabulate (length P + 1) (max_shift P))
 
+-- the table is shorter than both, or the pattern too long
+pub max-kept : (P table : List ℕ) → ((length P + 1) + (length P + 1) ≤ length table → length P ≤ 65535 → ⊥) → table ≡ max_shift_made P table
+max-kept P table none = made-kept (length P) (border_tables P) table (λ h k. none (omega (arith, border_tables-length P)) k)
+
 pub max-short : (P table : List ℕ) → length table < (length P + 1) + (length P + 1) → table ≡ max_shift_made P table
-max-short P table h = made-short (length P) (border_tables P) table (omega (arith, border_tables-length P))
+max-short P table h = max-kept P table (λ k l. omega arith)
 
 pub max-long : (P table : List ℕ) → 65535 < length P → table ≡ max_shift_made P table
-max-long P table h =
-    by-test (λ _. table ≡ max_shift_made P table) (ltb (length table) (length (border_tables P)))
-    (λ t. made-short (length P) (border_tables P) table (ltb-true (length table) (length (border_tables P)) t))
-    (λ t. made-long (length P) (border_tables P) table (ltb-false (length table) (length (border_tables P)) t) h)
+max-long P table h = max-kept P table (λ k l. omega arith)
+
+-- a table that has all shifts after the KMP entries
+pub max-made : (P : List ℕ) (n : ℕ) {table₀ table : List ℕ} → length P ≤ 65535 → n ≡ length P + 1 → Ruled (length P + 1 + n) (then (length P + 1) (kmp_entry P) (max_shift P)) table₀ table → table ≡ max_shift_made P table₀
+max-made P n {table₀} {table} small all r =
+    rw (← tabulate-then (length P + 1) (length P + 1) (kmp_entry P) (max_shift P)) (ruled-made (length P) small (rw all at r))
 
 pub max-reads : (P : List ℕ) {table : List ℕ} {a p q : ℕ} → 1 ≤ length P → Entries a (length P + 1) (max_shift P) table → q ≤ length P → p ≡ a + q → Reads (get_or table p 0) (max_shift P q) 1 (length P)
 max-reads P {q = q} some t h is =

@@ -11,38 +11,27 @@ ghost use Rattle.border_tables.specs.MaxShift.{max_shift_made};
 use letter_tables::Gap;
 
 // The KMP entries b[1] to b[m + 1] at the table's front, as source document 001, Algorithm 1, which holds j - b[j] in place of b[j].
-// Linear in m: a turn of the outer loop raises q by 1 and j by 1, and a turn of the inner loop lowers j, since b[j] is below j; so the inner
-// loop makes fewer than m turns in all. Both loops' measure, 2 (m - q) + j, says so: it starts at 2m and every turn of either lowers it.
+// Linear in m: a turn of the outer loop raises j by 1, and a turn of the inner loop lowers it, since b[j] is below j; so the inner loop makes
+// fewer than m turns in all.
 pub fn kmp_table(pattern: &[u8], table: &mut [u16])
     ensures { table.new ≡ kmp_made pattern.now table.old }
 {
     let m = pattern.len();
-    if table.len() <= m {
-        return;
-    }
-    if 65535 < m {
+    if table.len() <= m || 65535 < m {
         return;
     }
     table[0] = 0;
-    let mut q: usize = 0;
-    let mut j: usize = 0;
-    while q < m {
-        let c = pattern[q];
-        while 0 < j {
-            if pattern[j - 1] == c {
-                break;
-            }
+    let mut j = 0;
+    for (q, c) in pattern.iter().enumerate() {
+        while 0 < j && pattern[j - 1] != *c {
             j = table[j - 1] as usize;
         }
-        q += 1;
         j += 1;
-        let mut entry = j as u16;
-        if q < m {
-            if pattern[q] == pattern[j - 1] {
-                entry = table[j - 1];
-            }
-        }
-        table[q] = entry;
+        table[q + 1] = if q + 1 < m && pattern[q + 1] == pattern[j - 1] {
+            table[j - 1]
+        } else {
+            j as u16
+        };
     }
 }
 
@@ -52,26 +41,18 @@ pub fn max_shift_table(pattern: &[u8], table: &mut [u16]) -> Gap
     ensures { (result ≡ gap_found pattern.now) × (table.new ≡ max_shift_made pattern.now table.old) }
 {
     let m = pattern.len();
+    let n = m + 1; // so many entries has each of the two tables
     let widest = letter_tables::widest_gap(pattern);
-    if 65535 < m {
-        return widest;
-    }
-    if table.len() < m + 1 + (m + 1) {
+    if 65535 < m || table.len() < n + n {
         return widest;
     }
     kmp_table(pattern, table);
     let md = widest.width as u16;
-    let mut q = 0;
-    while q <= m {
+    for q in 0..n {
         let equal = q as u16; // as many letters are equal before letter j
-        let mut shift = equal - table[q] + 1;
-        if shift <= md {
-            if equal <= md {
-                shift = md;
-            }
-        }
-        table[m + 1 + q] = shift;
-        q += 1;
+        let shift = equal - table[q] + 1;
+        let wide = shift <= md && equal <= md;
+        table[n + q] = if wide { md } else { shift };
     }
     widest
 }

@@ -1,8 +1,9 @@
 -- Laws of the gaps of a pattern, from their rule alone: a gap by the last position of its letter (`gap_is`), the widest of them and its position, one letter more, and what engines
 -- cite: Fact 3 of source document 001 (`gap-safe`). Assumes nothing.
-use mathlib.Core.Path.{◌≡◌, refl, sym, ◌∙◌}
+use mathlib.Core.Path.{◌≡◌, refl, sym, ap, ◌∙◌}
 use Prim.Native.Nat.{ℕ, zero, suc, ◌+◌, ◌-◌, ◌≤◌, ◌<◌}
 use native.Mathlib.Omega.{arith}
+use native.Mathlib.Numerals.{add-one}
 use mathlib.Core.List.{List}
 use lib.ListN.{length, get_or}
 use lib.Dec.{eqb, ltb}
@@ -10,6 +11,7 @@ use borrow.Author.Tests.{eqb-true, eq-eqb, ne_eqb, ltb-true, ltb-false, lt-ltb, 
 use Rattle.matching.proofs.CaseAnalysis.{by-test, at_same}
 use Rattle.matching.proofs.Occurrences.{Stands}
 use Rattle.tables.specs.Tables.{largest}
+use Rattle.letter_tables.specs.declared.Gap.{Gap}
 use Rattle.letter_tables.specs.BadCharacter.{last_in}
 use Rattle.letter_tables.specs.Gaps.{gap, widest, md, widest_at, mdp, widest_gap, gap_found}
 use Rattle.tables.proofs.Tables.{largest-le, largest-holds, least-low, least-most, least-none, least-is}
@@ -63,6 +65,21 @@ module _ (P : List ℕ) (n : ℕ) where
     pub widest_at-old : widest_at P (suc n) ≡ widest_at P n
     unfolding widest_at largest
     widest_at-old = rw (widest-old, ne_eqb (gap P n) (widest P n) (λ e. omega arith))
+
+-- as a loop finds it, with the position `before` of the same letter before letter q + 1
+pub widest-next : (P : List ℕ) (q before : ℕ) {w w' : Gap} → w ≡ record { width = widest P q; letter = widest_at P q } → q + 1 ≡ before + gap P q
+    → (w.width ≤ q + 1 - before → w' ≡ record { width = q + 1 - before; letter = q + 1 }) → (q + 1 - before < w.width → w' ≡ w)
+    → w' ≡ record { width = widest P (q + 1); letter = widest_at P (q + 1) }
+widest-next P q before {w} {w'} is last new old =
+    let this : q + 1 - before ≡ gap P q = omega arith in
+    let width : w.width ≡ widest P q = ap (λ (g : Gap). g.width) is in
+    by-test (λ _. w' ≡ record { width = widest P (q + 1); letter = widest_at P (q + 1) }) (ltb (gap P q) (widest P q))
+    (λ t.
+    let narrow = ltb-true (gap P q) (widest P q) t in
+    rw (add-one q, widest-old P q narrow, widest_at-old P q narrow) (old (omega arith) ∙ is))
+    (λ t.
+    let wide = ltb-false (gap P q) (widest P q) t in
+    rw (add-one q, widest-new P q wide, widest_at-new P q wide) (new (omega arith) ∙ rw (this, add-one q)))
 
 -- ---- the widest of some letters
 

@@ -3,28 +3,30 @@
 // the laws that stand beside it (proofs/Moves.antt). A table too short, or a pattern so long that an entry could pass 16 bits, leaves everything as before.
 #![tactic(auto)]
 
-ghost use Rattle.std.specs.Prelude.{◌≡◌, ◌++◌, ◌≤◌, length, drop};
+ghost use Rattle.std.specs.Prelude.{◌≡◌, ◌≤◌, length};
+ghost use Rattle.tables.specs.Tables.{made};
 ghost use Rattle.letter_tables.specs.BadCharacter.{last_table, sunday_made, horspool_made, delta1_made};
 ghost use Rattle.letter_tables.specs.Gaps.{gap_found};
 
 // A gap between a letter and the same letter before it: its width, and the position of the later letter, from 1.
+// Kept: 0 at 0 stands for none, and not an Option, since `gap_found` in the contracts of `widest_gap` and of `border_tables::max_shift_table` says so.
 #[derive(Clone, Copy)]
 pub struct Gap {
     pub width: usize,
     pub letter: usize,
 }
 
-// Sets 256 entries: `base` less the last position of each letter among the pattern's first `count`.
+// Sets 256 entries: `base` less the last position of each letter among the pattern's first `count`. Where the table has no room for them, or the base does not fit 16 bits, all stays as before.
 fn fill(pattern: &[u8], base: usize, count: usize, table: &mut [u16])
-    requires { (256 ≤ length table.old) × ((count ≤ length pattern.now) × ((count ≤ base) × (base ≤ 65535))) }
-    ensures { table.new ≡ last_table pattern.now base count ++ drop 256 table.old }
+    requires { (count ≤ length pattern.now) × (count ≤ base) }
+    ensures { table.new ≡ made base (last_table pattern.now base count) table.old }
 {
-    let absent = base as u16;
-    tables::set_all(&mut table[..256], absent);
-    let mut q = 0;
-    while q < count {
-        table[pattern[q] as usize] = (base - 1 - q) as u16;
-        q += 1;
+    if table.len() < 256 || 65535 < base {
+        return;
+    }
+    tables::set_all(&mut table[..256], base as u16);
+    for (q, letter) in pattern[..count].iter().enumerate() {
+        table[*letter as usize] = (base - 1 - q) as u16;
     }
 }
 
@@ -33,12 +35,6 @@ pub fn sunday_table(pattern: &[u8], table: &mut [u16])
     ensures { table.new ≡ sunday_made pattern.now table.old }
 {
     let m = pattern.len();
-    if table.len() < 256 {
-        return;
-    }
-    if 65534 < m {
-        return;
-    }
     fill(pattern, m + 1, m, table)
 }
 
@@ -47,17 +43,7 @@ pub fn horspool_table(pattern: &[u8], table: &mut [u16])
     ensures { table.new ≡ horspool_made pattern.now table.old }
 {
     let m = pattern.len();
-    if table.len() < 256 {
-        return;
-    }
-    if 65535 < m {
-        return;
-    }
-    let mut count = 0;
-    if 0 < m {
-        count = m - 1;
-    }
-    fill(pattern, m, count, table)
+    fill(pattern, m, m.saturating_sub(1), table)
 }
 
 // Boyer-Moore's DELTA1 entries, one a letter, at the table's front.
@@ -65,12 +51,6 @@ pub fn delta1_table(pattern: &[u8], table: &mut [u16])
     ensures { table.new ≡ delta1_made pattern.now table.old }
 {
     let m = pattern.len();
-    if table.len() < 256 {
-        return;
-    }
-    if 65535 < m {
-        return;
-    }
     fill(pattern, m, m, table)
 }
 
@@ -79,26 +59,24 @@ pub fn delta1_table(pattern: &[u8], table: &mut [u16])
 pub fn widest_gap(pattern: &[u8]) -> Gap
     ensures { result ≡ gap_found pattern.now }
 {
-    let m = pattern.len();
-    if 65535 < m {
-        return Gap {
-            width: 0,
-            letter: 0,
-        };
+    let mut widest = Gap {
+        width: 0,
+        letter: 0,
+    };
+    if 65535 < pattern.len() {
+        return widest;
     }
     let mut before: [u16; 256] = [0; 256];
-    let mut width = 0;
-    let mut letter = 0;
-    let mut q = 0;
-    while q < m {
-        let c = pattern[q] as usize;
+    for (q, letter) in pattern.iter().enumerate() {
+        let c = *letter as usize;
         let gap = q + 1 - before[c] as usize;
-        q += 1;
-        if width <= gap {
-            width = gap;
-            letter = q;
+        if widest.width <= gap {
+            widest = Gap {
+                width: gap,
+                letter: q + 1,
+            };
         }
-        before[c] = q as u16;
+        before[c] = (q + 1) as u16;
     }
-    Gap { width, letter }
+    widest
 }

@@ -1,5 +1,5 @@
 -- Suffixes of a pattern that stand again earlier, letter by letter, and what that says of DELTA2's rule. Places count from 0. Assumes nothing.
-use mathlib.Core.Path.{◌≡◌, refl, sym, ap, ◌∙◌}
+use mathlib.Core.Path.{◌≡◌, sym, ap, ◌∙◌}
 use Prim.Native.Nat.{ℕ, zero, suc, ◌+◌, ◌-◌, ◌≤◌, ◌<◌}
 use native.Mathlib.Omega.{arith}
 use mathlib.Core.List.{List}
@@ -14,9 +14,6 @@ use Rattle.suffix_tables.specs.Suffixes.{again}
 use Rattle.suffix_tables.specs.Delta2.{shift, delta2_entry}
 use Rattle.suffix_tables.specs.Passes.{Again, Behind}
 use Rattle.suffix_tables.proofs.Delta2.{Fits, shift_is}
-
-pub again-self : (P : List ℕ) (p : ℕ) → Again P p p
-again-self P p = record { letters = λ i h. refl }
 
 -- no letters are left
 pub again-none : (P : List ℕ) (p s : ℕ) → length P ≤ p → Again P p s

@@ -3,14 +3,14 @@
 use mathlib.Core.Path.{◌≡◌, refl, sym, ◌∙◌}
 use Prim.Native.Nat.{ℕ, suc, ◌+◌, ◌-◌, ◌*◌, ◌≤◌, ◌<◌}
 use native.Mathlib.Omega.{arith}
-use mathlib.Core.Bool.{Bool, true, not, ◌||◌}
+use mathlib.Core.Bool.{Bool, true, cond, not, ◌||◌}
 use mathlib.Core.List.{List}
 use lib.ListN.{length, get_or}
 use lib.Dec.{eqb, ltb, leb}
 use borrow.Author.Tests.{not-true, eqb-true, eqb-false, eq-eqb, ne_eqb, ltb-true, ltb-false, lt-ltb, le-ltb, leb-false, lt-leb}
 use Rattle.matching.proofs.CaseAnalysis.{by-test, both, either}
 use Rattle.tables.specs.Tables.{least, every, made, Entries}
-use Rattle.tables.proofs.Tables.{least-low, least-none, least-holds, least-is, every-all, all-every, made-short-by, made-long-by, Reads}
+use Rattle.tables.proofs.Tables.{least-low, least-none, least-holds, least-is, every-all, all-every, made-kept_by, Reads}
 use Rattle.suffix_tables.specs.Suffixes.{suffix_made}
 use Rattle.suffix_tables.specs.Delta2.{letter, fits, shift, delta2_entry, delta2_table, delta2_made, borders_made}
 
@@ -101,21 +101,30 @@ module _ (P : List ℕ) (room : ℕ) (table : List ℕ) where
       by-test (λ _. table ≡ delta2_made P room table) (ltb (length P) room)
       (λ t. e ∙ sym (delta2-made (ltb-true (length P) room t))) (λ t. delta2-none (ltb-false (length P) room t))
 
+  pub delta2-kept : (length P ≤ length table → length P ≤ 32768 → ⊥) → table ≡ delta2_made P room table
+  delta2-kept none = kept-as (made-kept_by (2 * length P - 1) (length P) (λ q. delta2_entry P (suc q)) table (λ h k. none h (omega arith)))
+
   pub delta2-short : length table < length P → table ≡ delta2_made P room table
-  delta2-short h = kept-as (made-short-by (2 * length P - 1) (length P) (λ q. delta2_entry P (suc q)) table h)
+  delta2-short h = delta2-kept (λ k l. omega arith)
 
   pub delta2-long : length P ≤ length table → 32768 < length P → table ≡ delta2_made P room table
-  delta2-long h l = kept-as (made-long-by (2 * length P - 1) (length P) (λ q. delta2_entry P (suc q)) table h (omega arith))
+  delta2-long h l = delta2-kept (λ k m. omega arith)
 
 -- and of the borders
 module _ (P : List ℕ) (size : ℕ) (borders : List ℕ) where
-  pub borders-short : size < length P → borders ≡ borders_made P size borders
+  pub borders-kept : (length P ≤ size → length P ≤ 32768 → ⊥) → borders ≡ borders_made P size borders
   unfolding borders_made
-  borders-short h = rw (lt-ltb size (length P) h)
+  borders-kept none =
+      by-test (λ t. borders ≡ cond (t || ltb 65535 (2 * length P - 1)) borders (suffix_made P borders)) (ltb size (length P)) (λ _. refl)
+      (λ t.
+      by-test (λ u. borders ≡ cond u borders (suffix_made P borders)) (ltb 65535 (2 * length P - 1)) (λ _. refl)
+      (λ u. absurd (none (ltb-false _ _ t) (omega (arith, ltb-false _ _ u)))))
+
+  pub borders-short : size < length P → borders ≡ borders_made P size borders
+  borders-short h = borders-kept (λ k l. omega arith)
 
   pub borders-long : length P ≤ size → 32768 < length P → borders ≡ borders_made P size borders
-  unfolding borders_made
-  borders-long h l = rw (le-ltb size (length P) h, lt-ltb 65535 (2 * length P - 1) (omega arith))
+  borders-long h l = borders-kept (λ k m. omega arith)
 
   pub borders-made : length P ≤ size → length P ≤ 32768 → borders_made P size borders ≡ suffix_made P borders
   unfolding borders_made

@@ -4,6 +4,10 @@ use mathlib.Core.Path.{◌≡◌, refl, sym, ◌∙◌}
 use Prim.Native.Nat.{ℕ, suc, ◌+◌, ◌-◌, ◌≤◌, ◌<◌}
 use native.Mathlib.Omega.{arith}
 use mathlib.Core.List.{List, ◌++◌}
+use mathlib.Core.Logic.{⊎_elim}
+use Rattle.std.proofs.lemmas.Bool.{cases_lt}
+use Rattle.tables.specs.Tables.{Entries}
+use Rattle.suffix_tables.specs.Suffixes.{suffix_entry}
 use lib.ListN.{length, get_or, drop, set, length-set}
 use lib.Seq.{get_or-set_same, get_or-set_other, drop-set-lt}
 use lib.Dec.{eqb, ltb}
@@ -12,8 +16,8 @@ use Rattle.matching.proofs.CaseAnalysis.{by-test, at_same}
 use Rattle.tables.proofs.Tables.{ruled-is}
 use Rattle.suffix_tables.specs.Delta2.{delta2_entry, delta2_table}
 use Rattle.suffix_tables.specs.Passes.{Again, Behind, Held, Settled}
-use Rattle.suffix_tables.proofs.Suffixes.{Next}
-use Rattle.suffix_tables.proofs.Again.{again-self, again-trans, again-nested, again-less, again-letter, again-more, entry-behind, entry_whole}
+use Rattle.suffix_tables.proofs.Suffixes.{Next, suffix-reads}
+use Rattle.suffix_tables.proofs.Again.{again-trans, again-nested, again-less, again-letter, again-more, entry-behind, entry_whole}
 
 -- ---- the lent table
 
@@ -23,16 +27,6 @@ held_start h = record { room = h; long = refl; kept = refl }
 pub held-set : {P table₀ table : List ℕ} (q v : ℕ) → q < length P → Held P table₀ table → Held P table₀ (set table q v)
 held-set {P} {table₀} {table} q v h d =
     record { room = omega (arith, d.room, length-set table q v); long = length-set table q v ∙ d.long; kept = drop-set-lt (length P) table q v h ∙ d.kept }
-
--- no entry is settled yet; n of them are, and there are no more; after no place from u on, so after none from r on
-pub settled-none : {P table : List ℕ} → length P ≤ length table → Settled P 0 0 table table
-settled-none h = record { held = held_start h; entry = λ q l. absurd (omega arith) }
-
-pub settled-all : {P table₀ table : List ℕ} {n r : ℕ} → length P ≤ n → Settled P n r table₀ table → Settled P (length P) r table₀ table
-settled-all h d = record { held = d.held; entry = λ q l. d.entry q (omega arith) }
-
-pub settled-from : {P table₀ table : List ℕ} {n r u : ℕ} → u ≤ r → Settled P n r table₀ table → Settled P n u table₀ table
-settled-from h d = record { held = d.held; entry = λ q l none. d.entry q l (λ s k. none s (omega arith)) }
 
 -- a second turn begins with the table as the first left it, and both together
 pub settled-anew : {P table₀ table : List ℕ} {n r : ℕ} → Settled P n r table₀ table → Settled P n r table table
@@ -56,9 +50,6 @@ pub record Front (P : List ℕ) (q k : ℕ) : Type 0 where
   pub again : Again P k 0
   pub first : (c : ℕ) → q ≤ c → c < k → Again P c 0 → ⊥
 
-pub front-start : (P : List ℕ) → Front P 0 0
-front-start P = record { from = omega arith; most = omega arith; again = again-self P 0; first = λ c h l. absurd (omega arith) }
-
 -- past q: k itself, or the next place after it
 pub front-keep : {P : List ℕ} {q k : ℕ} → q < k → Front P q k → Front P (suc q) k
 front-keep h f = record { from = h; most = f.most; again = f.again; first = λ c a b. f.first c (omega arith) b }
@@ -72,6 +63,11 @@ front-on h l f n =
       again = again-trans (omega (arith, n.later)) (n.again (n.inside (omega arith))) f.again;
       first = λ c b d g. n.first c (omega arith) d (again-nested (omega arith) f.again g);
     }
+
+-- as the loop reads it
+pub front-next : (P : List ℕ) (q k k' : ℕ) {borders : List ℕ} → q < length P → Entries 0 (length P + 1) (suffix_entry P) borders → (k ≤ q → k' ≡ get_or borders k 0) → (q < k → k' ≡ k) → Front P q k → Front P (suc q) k'
+front-next P q k k' h b moved stays f =
+    ⊎_elim (λ l. rw (stays l) (front-keep l f)) (λ l. rw (moved l) (front-on h l f (suffix-reads P k b f.most))) (cases_lt q k)
 
 -- the entry
 pub front-settled : {P table₀ table : List ℕ} {q k : ℕ} (v : ℕ) → q < length P → Front P (suc q) k → v ≡ k + length P - 1 - q → Settled P q 0 table₀ table → Settled P (suc q) 0 table₀ (set table q v)
@@ -88,13 +84,6 @@ front-settled {P} {table₀} {table} {q} {k} v h f e d =
     }
 
 -- ---- place after place
-
--- from r + 1 on they stand again at the latest where they do from r on
-pub next-step : {P : List ℕ} {r e t : ℕ} → r < length P → Next P r e → Next P (suc r) t → t ≤ suc e
-next-step {P} {r} {e} {t} h n m =
-    by-test (λ _. t ≤ suc e) (ltb (suc e) t)
-    (λ x. absurd (m.first (suc e) (omega (arith, n.later)) (ltb-true (suc e) t x) (again-less (n.again (n.inside h)))))
-    (λ x. ltb-false (suc e) t x)
 
 -- at place r the entries before t are done: the letters from t on stand again after r
 pub record Walk (P : List ℕ) (r t : ℕ) (table₀ table : List ℕ) : Type 0 where
@@ -146,6 +135,10 @@ module _ {P table₀ table : List ℕ} {r : ℕ} where
             w.rest c a (omega arith) (none_from none (λ z. m.first (suc c) (omega arith) b (again-nested (omega arith) (w.again h) z.again)))));
         rest = λ c a b none. get_or-set_other table q c v 0 (λ x. omega (arith, m.later)) ∙ w.rest c a (omega (arith, m.later)) none;
       }
+
+  -- with the place as code has it
+  pub walk-next : (e t u v : ℕ) → t ≤ length P → t ≤ e → Next P r e → Next P t u → v ≡ length P - 1 - r → Walk P r t table₀ table → Walk P r u table₀ (set table (t - 1) v)
+  walk-next e t u v h l n m i w = let z : suc (t - 1) ≡ t = omega (arith, w.later) in walk-on (t - 1) v (omega arith) (omega arith) n (rw z m) i (rw z w)
 
   -- past the next place e where they stand again with letter r before them: any other entry that r gives, a later place gives too
   pub walk_ends : {t e : ℕ} → Next P r e → e < t → r < length P → Walk P r t table₀ table → Settled P (length P) (suc r) table₀ table

@@ -4,13 +4,14 @@ use mathlib.Core.Path.{◌≡◌, sym, ◌∙◌}
 use Prim.Native.Nat.{ℕ, suc, ◌+◌, ◌-◌, ◌≤◌, ◌<◌}
 use native.Mathlib.Omega.{arith}
 use mathlib.Core.List.{List}
-use lib.ListN.{length, get_or}
+use lib.ListN.{length, get_or, drop, set, length-set}
+use lib.Seq.{get_or-set_same, get_or-set_other, drop-set-lt}
 use lib.Dec.{eqb, ltb}
 use borrow.Author.Tests.{eqb-true, eqb-false, ltb-true, ltb-false}
 use Rattle.matching.proofs.CaseAnalysis.{by-test, at_same}
 use Rattle.tables.specs.Tables.{least, Entries}
-use Rattle.tables.proofs.Tables.{least-low, least-most, least-none, least-holds, least-is}
-use Rattle.suffix_tables.specs.Suffixes.{again, suffix_entry}
+use Rattle.tables.proofs.Tables.{least-low, least-most, least-none, least-holds, least-is, ruled-made}
+use Rattle.suffix_tables.specs.Suffixes.{again, suffix_entry, suffix_made}
 use Rattle.suffix_tables.specs.Passes.{Again}
 use Rattle.suffix_tables.proofs.Again.{again-none, again-trans, again-nested, again-less, again-letter, again-more, again-says, says-again}
 
@@ -61,12 +62,12 @@ pub record Chain (P : List ℕ) (s t : ℕ) : Type 0 where
   pub again : t ≤ length P → Again P t (suc s)
   pub above : (p : ℕ) → suc s < suc p → suc p < t → Again P (suc p) (suc s) → get_or P s 0 ≡ get_or P p 0 → ⊥
 
-pub next-end : (P : List ℕ) → Next P (length P) (length P + 1)
-next-end P = record { later = omega arith; most = omega arith; inside = λ h. absurd (omega arith); again = λ h. absurd (omega arith); first = λ r h l. absurd (omega arith) }
-
 module _ {P : List ℕ} {s : ℕ} where
-  pub chain-start : {t : ℕ} → Next P (suc s) t → Chain P s t
-  chain-start n = record { later = n.later; most = n.most; again = n.again; above = λ p h l a _. n.first (suc p) h l a }
+  pub chain-start : {n t : ℕ} → n ≡ suc s → Next P n t → Chain P s t
+  chain-start e n = start (rw e at n)
+    where
+      start : {t : ℕ} → Next P (suc s) t → Chain P s t
+      start n = record { later = n.later; most = n.most; again = n.again; above = λ p h l a _. n.first (suc p) h l a }
 
   pub chain-on : {t u : ℕ} → t ≤ length P → Chain P s t → (get_or P (t - 1) 0 ≡ get_or P s 0 → ⊥) → Next P t u → Chain P s u
   chain-on {t} {u} h c differs n =
@@ -86,8 +87,8 @@ module _ {P : List ℕ} {s : ℕ} where
       }
 
   -- where the chain ends, at m + 1 or with letter s before it
-  pub chain-ends : (p : ℕ) → s < length P → Chain P s (suc p) → (suc p ≤ length P → get_or P p 0 ≡ get_or P s 0) → Next P s p
-  chain-ends p h c same =
+  ended : (p : ℕ) → s < length P → Chain P s (suc p) → (suc p ≤ length P → get_or P p 0 ≡ get_or P s 0) → Next P s p
+  ended p h c same =
       let l : suc s < suc p = c.later in
       let k : suc p ≤ suc (length P) = c.most in
       record {
@@ -100,3 +101,36 @@ module _ {P : List ℕ} {s : ℕ} where
             (λ x. again-none P p s (ltb-false p (length P) x));
         first = λ r a b g. c.above r (omega arith) (omega arith) (again-less g) (again-letter (omega arith) g);
       }
+
+  pub chain-ends : (t : ℕ) → s < length P → Chain P s t → (t ≤ length P → get_or P (t - 1) 0 ≡ get_or P s 0) → Next P s (t - 1)
+  chain-ends t h c same = let z : suc (t - 1) ≡ t = omega (arith, c.later) in ended (t - 1) h (rw z c) (λ l. same (omega arith))
+
+-- ---- the lent table while it is filled from its end
+
+-- the places from s on have their entries in the table, which was table₀, and e is that of s
+pub record Made (P : List ℕ) (s e : ℕ) (table₀ table : List ℕ) : Type 0 where
+  pub room : length P < length table
+  pub long : length table ≡ length table₀
+  pub kept : drop (length P + 1) table ≡ drop (length P + 1) table₀
+  pub here : Next P s e
+  pub entry : (p : ℕ) → s ≤ p → p ≤ length P → Next P p (get_or table p 0)
+
+-- one place more, whose entry the chain has found
+pub made-next : {P table₀ table : List ℕ} {n e : ℕ} (s u : ℕ) → n ≡ suc s → s < length P → Made P n e table₀ table → Next P s u → Made P s u table₀ (set table s u)
+made-next {P} {table₀} {table} s u next h m n =
+    record {
+      room = omega (arith, m.room, length-set table s u);
+      long = length-set table s u ∙ m.long;
+      kept = drop-set-lt (length P + 1) table s u (omega arith) ∙ m.kept;
+      here = n;
+      entry = λ p l k.
+          by-test (λ _. Next P p (get_or (set table s u) p 0)) (eqb p s)
+          (λ x. rw (eqb-true p s x, get_or-set_same table s u 0 (omega (arith, m.room))) n)
+          (λ x. rw (get_or-set_other table s p u 0 (eqb-false p s x)) (m.entry p (omega (arith, eqb-false p s x)) k));
+    }
+
+-- all places are done
+pub made-all : {P table₀ table : List ℕ} {s e : ℕ} → s ≤ 0 → length P ≤ 65534 → Made P s e table₀ table → table ≡ suffix_made P table₀
+made-all {P} done small m =
+    ruled-made (length P + 1) (omega arith)
+    (record { entry = λ p k. sym (suffix_entry-is P p _ (omega arith) (m.entry p (omega arith) (omega arith))); kept = m.kept; room = omega (arith, m.room); long = m.long })

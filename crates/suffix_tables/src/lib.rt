@@ -10,27 +10,18 @@ ghost use Rattle.suffix_tables.specs.Delta2.{delta2_made, borders_made};
 ghost use Rattle.suffix_tables.specs.Passes.{Settled};
 
 // The borders of the suffixes, f(0) to f(m), at the table's front, as source document 002, Algorithm 4, finds them: KMP's table maker from the other end.
-// Linear in m: both loops' measure, 2s + (m + 1 - t), starts at 2m, and every turn of either lowers it.
+// Linear in m: a turn of the outer loop lowers t by 1, and a turn of the inner loop raises it, to m + 1 at most; so the inner loop makes at most m turns in all.
 fn suffix_table(pattern: &[u8], table: &mut [u16])
     ensures { table.new ≡ suffix_made pattern.now table.old }
 {
     let m = pattern.len();
-    if table.len() <= m {
-        return;
-    }
-    if 65534 < m {
+    if table.len() <= m || 65534 < m {
         return;
     }
     let mut t = m + 1;
     table[m] = t as u16;
-    let mut s = m;
-    while 0 < s {
-        s -= 1;
-        let c = pattern[s];
-        while t <= m {
-            if pattern[t - 1] == c {
-                break;
-            }
+    for s in (0..m).rev() {
+        while t <= m && pattern[t - 1] != pattern[s] {
             t = table[t] as usize;
         }
         t -= 1;
@@ -46,26 +37,23 @@ fn prefix_entries(pattern: &[u8], borders: &[u16], table: &mut [u16])
 {
     let m = pattern.len();
     let mut k = 0;
-    let mut q = 0;
-    while q < m {
+    for q in 0..m {
         if k <= q {
             k = borders[k] as usize;
         }
         table[q] = (k + m - 1 - q) as u16;
-        q += 1;
     }
 }
 
 // All others: for each place r, those of the places t - 1 whose following letters stand again after r, behind another letter; what the last r gives stays. Letter t - 1 differs from letter r as
 // long as t is at most f(r), since else f(r) would be smaller; so no letter is read again.
-// Linear in m: the loops' measures start at 2m + f(0), at most 3m, and every turn lowers them.
+// Linear in m: a turn of the inner loop raises t, from f(r + 1) to at most f(r) + 1; so for all places it makes at most f(0) + m - f(m) turns, which is below m.
 fn suffix_entries(pattern: &[u8], borders: &[u16], table: &mut [u16])
     requires { Entries 0 (length pattern.now + 1) (suffix_entry pattern.now) borders.now × (Settled pattern.now (length pattern.now) 0 table.old table.old × (length pattern.now ≤ 32768)) }
     ensures { Settled pattern.now (length pattern.now) (length pattern.now) table.old table.new }
 {
     let m = pattern.len();
-    let mut r = 0;
-    while r < m {
+    for r in 0..m {
         let end = borders[r] as usize;
         let value = (m - 1 - r) as u16;
         let mut t = borders[r + 1] as usize;
@@ -73,7 +61,6 @@ fn suffix_entries(pattern: &[u8], borders: &[u16], table: &mut [u16])
             table[t - 1] = value;
             t = borders[t] as usize;
         }
-        r += 1;
     }
 }
 
@@ -83,10 +70,7 @@ pub fn delta2_table(pattern: &[u8], borders: &mut [u16], table: &mut [u16])
     ensures { (borders.new ≡ borders_made pattern.now (length table.old) borders.old) × (table.new ≡ delta2_made pattern.now (length borders.old) table.old) }
 {
     let m = pattern.len();
-    if table.len() < m {
-        return;
-    }
-    if 32768 < m {
+    if table.len() < m || 32768 < m {
         return;
     }
     suffix_table(pattern, borders);

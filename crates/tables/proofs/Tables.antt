@@ -3,7 +3,7 @@ use mathlib.Core.Path.{◌≡◌, refl, sym, ap, ◌∙◌}
 use Prim.Native.Nat.{ℕ, zero, suc, ◌+◌, ◌-◌, ◌≤◌, ◌<◌}
 use native.Mathlib.Omega.{arith}
 use mathlib.Core.List.{List, [], ◌++◌, append_assoc, append-nil}
-use mathlib.Core.Bool.{Bool, true, false, cond, true≢false}
+use mathlib.Core.Bool.{Bool, true, false, cond, ◌||◌, true≢false}
 use lib.ListN.{length, get_or, take, drop, set, replicate, take-append-drop, length-append, length-drop, length-set, length-replicate, drop_of_length-le, get_or-append, get_or-replicate}
 use lib.Seq.{length-take-le, get_or-take, get_or-append-add, ext_get_or, get_or-set_same, get_or-set_other, drop-set-lt, drop-drop, drop_at, take_at, take_all}
 use borrow.Rule.Slice.PartMut.{put_mid, mid_of}
@@ -225,15 +225,13 @@ ruled-anew r = record { entry = r.entry; kept = refl; room = r.room; long = refl
 pub ruled-since : {n : ℕ} {f g : ℕ → ℕ} {table₀ table₁ table : List ℕ} → Ruled n f table₀ table₁ → Ruled n g table₁ table → Ruled n g table₀ table
 ruled-since r₁ r = record { entry = r.entry; kept = r.kept ∙ r₁.kept; room = r.room; long = r.long ∙ r₁.long }
 
--- ---- what a maker leaves: the table is shorter than the entries, the pattern is too long, or neither
+-- ---- what a maker leaves: where the table is shorter than the entries, or the pattern is too long, all as before
 
-pub made-short : (most : ℕ) (entries table : List ℕ) → length table < length entries → table ≡ made most entries table
+pub made-kept : (most : ℕ) (entries table : List ℕ) → (length entries ≤ length table → most ≤ 65535 → ⊥) → table ≡ made most entries table
 unfolding made
-made-short most entries table h = rw (lt-ltb (length table) (length entries) h)
-
-pub made-long : (most : ℕ) (entries table : List ℕ) → length entries ≤ length table → 65535 < most → table ≡ made most entries table
-unfolding made
-made-long most entries table h k = rw (le-ltb (length table) (length entries) h, lt-ltb 65535 most k)
+made-kept most entries table none =
+    by-test (λ t. table ≡ cond (t || ltb 65535 most) table (received table entries)) (ltb (length table) (length entries)) (λ _. refl)
+    (λ t. by-test (λ u. table ≡ cond u table (received table entries)) (ltb 65535 most) (λ _. refl) (λ u. absurd (none (ltb-false _ _ t) (ltb-false _ _ u))))
 
 pub made-is : (most : ℕ) (entries table : List ℕ) → length entries ≤ length table → most ≤ 65535 → made most entries table ≡ entries ++ drop (length entries) table
 unfolding made
@@ -241,14 +239,19 @@ made-is most entries table h k = rw (le-ltb (length table) (length entries) h, l
 
 -- the same for n entries by a rule
 module _ (most n : ℕ) (rule : ℕ → ℕ) (table : List ℕ) where
-  pub made-short-by : length table < n → table ≡ made most (tabulate n rule) table
-  made-short-by h = made-short most (tabulate n rule) table (omega (arith, length-tabulate n rule))
-
-  pub made-long-by : n ≤ length table → 65535 < most → table ≡ made most (tabulate n rule) table
-  made-long-by h k = made-long most (tabulate n rule) table (omega (arith, length-tabulate n rule)) k
+  pub made-kept_by : (n ≤ length table → most ≤ 65535 → ⊥) → table ≡ made most (tabulate n rule) table
+  made-kept_by none = made-kept most (tabulate n rule) table (λ h k. none (omega (arith, length-tabulate n rule)) k)
 
   pub made_by : n ≤ length table → most ≤ 65535 → made most (tabulate n rule) table ≡ tabulate n rule ++ drop n table
   made_by h k = made-is most (tabulate n rule) table (omega (arith, length-tabulate n rule)) k ∙ ap (λ i. tabulate n rule ++ drop i table) (length-tabulate n rule)
+
+-- a table whose first n entries follow the rule is what the maker leaves
+pub ruled-made : (most : ℕ) {n : ℕ} {rule : ℕ → ℕ} {table₀ table : List ℕ} → most ≤ 65535 → Ruled n rule table₀ table → table ≡ made most (tabulate n rule) table₀
+ruled-made most {n} {rule} {table₀} h r = ruled-is r ∙ sym (made_by most n rule table₀ (omega (arith, r.room, r.long)) h)
+
+-- and back, where the table has room and no entry is above 16 bits
+pub made-ruled : (most : ℕ) {n : ℕ} {rule : ℕ → ℕ} {table₀ table : List ℕ} → n ≤ length table₀ → most ≤ 65535 → table ≡ made most (tabulate n rule) table₀ → Ruled n rule table₀ table
+made-ruled most {n} {rule} {table₀} h k e = rw (e ∙ made_by most n rule table₀ h k) (ruled-front n rule table₀ h)
 
 -- ---- what an engine knows of a table that stands in its scratch (`Entries`)
 

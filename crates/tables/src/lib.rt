@@ -9,9 +9,5 @@ ghost use Rattle.std.specs.Prelude.{◌≡◌, length, replicate};
 pub fn set_all(table: &mut [u16], value: u16)
     ensures { table.new ≡ replicate (length table.old) value }
 {
-    let mut i = 0;
-    while i < table.len() {
-        table[i] = value;
-        i += 1;
-    }
+    table.fill(value);
 }
