@@ -5,55 +5,66 @@
 ghost use Rattle.std.specs.Prelude.{◌≡◌, ◌+◌, ◌-◌, ◌≤◌, ◌<◌, length};
 ghost use Rattle.matching.specs.Received.{received};
 ghost use Rattle.matching.specs.Find.{Found};
+ghost use Rattle.matching.specs.Results.{finding};
+ghost use Rattle.suffix_tables.specs.Delta2.{delta2_made};
 ghost use Rattle.boyer_moore.specs.BoyerMoore.{larger, boyer_moore};
 ghost use Rattle.boyer_moore.specs.Made.{Made};
 
-use matching::Finding;
+use matching::{Refusal, Tally};
 
-// Makes both tables: the scratch's first 256 entries are lent to the DELTA1 maker and the part from 256 on to the DELTA2 maker. That one works in memory of the stack, 2,050 bytes or, for a short
-// pattern, 130, which are sooner cleared.
+// Makes DELTA2 in memory of the stack for the borders, ROOM entries, which are cleared first.
+fn make_delta2<const ROOM: usize>(pattern: &[u8], table: &mut [u16])
+    requires { ROOM ≤ 1025 }
+    ensures { table.new ≡ delta2_made pattern.now ROOM table.old }
+{
+    let mut borders = [0; ROOM];
+    suffix_tables::delta2_table(pattern, &mut borders, table);
+}
+
+// Makes both tables: the scratch's first 256 entries are lent to the DELTA1 maker and the part from 256 on to the DELTA2 maker. That one works in 2,050 bytes or, for a short pattern, in 130, which
+// are sooner cleared.
 fn make_tables(pattern: &[u8], scratch: &mut [u16])
-    requires { (length pattern.now ≤ 1024) × (256 + length pattern.now ≤ length scratch.old) }
-    ensures { scratch.new ≡ received scratch.old (boyer_moore.tables pattern.now) }
+    requires short { length pattern.now ≤ 1024 }
+    requires room { 256 + length pattern.now ≤ length scratch.old }
+    ensures left { scratch.new ≡ received scratch.old (boyer_moore.tables pattern.now) }
+    ensures made { Made pattern.now scratch.new }
 {
     letter_tables::delta1_table(pattern, &mut scratch[..256]);
     if pattern.len() <= 64 {
-        let mut borders = [0; 65];
-        suffix_tables::delta2_table(pattern, &mut borders, &mut scratch[256..]);
+        make_delta2::<65>(pattern, &mut scratch[256..]);
     } else {
-        let mut borders = [0; 1025];
-        suffix_tables::delta2_table(pattern, &mut borders, &mut scratch[256..]);
+        make_delta2::<1025>(pattern, &mut scratch[256..]);
     }
 }
 
 // The larger of DELTA1 and DELTA2 for the window at s, where the last k letters are equal and the one before them is not.
 fn larger(pattern: &[u8], text: &[u8], scratch: &[u16], s: usize, k: usize) -> usize
-    requires { (k < length pattern.now) × ((s + length pattern.now ≤ length text.now) × ((length text.now ≤ 32768) × Made pattern.now scratch.now)) }
-    ensures { result ≡ larger pattern.now text.now s (length pattern.now - k) }
+    requires part { k < length pattern.now }
+    requires inside { s + length pattern.now ≤ length text.now }
+    requires small { length text.now ≤ 32768 }
+    requires made { Made pattern.now scratch.now }
+    ensures value { result ≡ larger pattern.now text.now s (length pattern.now - k) }
+    ensures past { k < result }
+    ensures most { result ≤ 65535 }
 {
     let q = pattern.len() - 1 - k;
     let by_letter = scratch[text[s + q] as usize] as usize;
     let by_place = scratch[256 + q] as usize;
-    if by_letter < by_place {
-        return by_place;
-    }
-    by_letter
+    by_letter.max(by_place)
 }
 
 // Finds the pattern in the text; the scratch holds 256 DELTA1 entries and then DELTA2 of 1 to m afterwards.
-pub fn find(pattern: &[u8], text: &[u8], scratch: &mut [u16], list: &mut [u32]) -> Finding
-    ensures { Found boyer_moore pattern.now text.now scratch.old list.old result scratch.new list.new }
+pub fn find(
+    pattern: &[u8],
+    text: &[u8],
+    scratch: &mut [u16],
+    list: &mut [u32],
+) -> Result<Tally, Refusal>
+    ensures { Found boyer_moore pattern.now text.now scratch.old list.old (finding result) scratch.new list.new }
 {
     let m = pattern.len();
     let n = text.len();
-    let refusal = matching::refused(m, n, scratch.len(), 256 + m);
-    if refusal != 0 {
-        return Finding {
-            refusal,
-            total: 0,
-            comparisons: 0,
-        };
-    }
+    matching::refused(m, n, scratch.len(), 256 + m)?;
     make_tables(pattern, scratch);
     let end = m - 1;
     let last = pattern[end];
@@ -63,28 +74,25 @@ pub fn find(pattern: &[u8], text: &[u8], scratch: &mut [u16], list: &mut [u32]) 
     let mut s = 0;
     while s + m <= n {
         let u = text[s + end];
-        let mut shift = after;
-        if u == last {
+        let shift = if u == last {
             let k = 1 + matching::compare_down(pattern, text, s, end);
             compared += k;
             if k < m {
                 compared += 1;
-                shift = larger(pattern, text, scratch, s, k) - k;
+                larger(pattern, text, scratch, s, k) - k
             } else {
                 matching::store(list, total, s as u32);
                 total += 1;
+                after
             }
         } else {
             compared += 1;
-            shift = scratch[u as usize] as usize; // DELTA1: at the last letter it is never below DELTA2
-        }
+            scratch[u as usize] as usize // DELTA1: at the last letter it is never below DELTA2
+        };
         s += shift;
     }
-    let found = total as u32;
-    let looks = compared as u32;
-    Finding {
-        refusal: 0,
-        total: found,
-        comparisons: looks,
-    }
+    Ok(Tally {
+        total: total as u32,
+        comparisons: compared as u32,
+    })
 }

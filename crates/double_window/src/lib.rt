@@ -5,11 +5,12 @@
 
 ghost use Rattle.std.specs.Prelude.{◌≡◌, ◌+◌, ◌-◌, ◌≤◌, length, get_or};
 ghost use Rattle.matching.specs.Find.{Found};
+ghost use Rattle.matching.specs.Results.{finding};
 ghost use Rattle.tables.specs.Tables.{Entries};
 ghost use Rattle.letter_tables.specs.BadCharacter.{horspool_entry};
 ghost use Rattle.double_window.specs.DoubleWindow.{under, jump, double_window};
 
-use matching::Finding;
+use matching::{Refusal, Tally};
 
 // The move of the window at s by u and v, where u is not the pattern's last letter. Horspool's entry says where u stands in the pattern, and m says that u is absent: then
 // v moves the window further, by m and its own entry, or by m alone where v is the last letter.
@@ -36,19 +37,17 @@ fn jump(pattern: &[u8], text: &[u8], entries: &[u16], last: u8, s: usize, u: u8)
 }
 
 // Finds the pattern in the text; the scratch holds the 256 Horspool entries afterwards.
-pub fn find(pattern: &[u8], text: &[u8], scratch: &mut [u16], list: &mut [u32]) -> Finding
-    ensures { Found double_window pattern.now text.now scratch.old list.old result scratch.new list.new }
+pub fn find(
+    pattern: &[u8],
+    text: &[u8],
+    scratch: &mut [u16],
+    list: &mut [u32],
+) -> Result<Tally, Refusal>
+    ensures { Found double_window pattern.now text.now scratch.old list.old (finding result) scratch.new list.new }
 {
     let m = pattern.len();
     let n = text.len();
-    let refusal = matching::refused(m, n, scratch.len(), 256);
-    if refusal != 0 {
-        return Finding {
-            refusal,
-            total: 0,
-            comparisons: 0,
-        };
-    }
+    matching::refused(m, n, scratch.len(), 256)?;
     letter_tables::horspool_table(pattern, scratch);
     let end = m - 1;
     let last = pattern[end];
@@ -58,7 +57,6 @@ pub fn find(pattern: &[u8], text: &[u8], scratch: &mut [u16], list: &mut [u32]) 
     let mut s = 0;
     while s + m <= n {
         let u = text[s + end];
-        let mut shift = after;
         if u == last {
             let k = matching::compare_down(pattern, text, s, end);
             compared += k;
@@ -68,16 +66,13 @@ pub fn find(pattern: &[u8], text: &[u8], scratch: &mut [u16], list: &mut [u32]) 
                 matching::store(list, total, s as u32);
                 total += 1;
             }
+            s += after;
         } else {
-            shift = jump(pattern, text, scratch, last, s, u);
+            s += jump(pattern, text, scratch, last, s, u);
         }
-        s += shift;
     }
-    let found = total as u32;
-    let looks = compared as u32;
-    Finding {
-        refusal: 0,
-        total: found,
-        comparisons: looks,
-    }
+    Ok(Tally {
+        total: total as u32,
+        comparisons: compared as u32,
+    })
 }

@@ -3,24 +3,23 @@
 #![tactic(auto)]
 
 ghost use Rattle.matching.specs.Find.{Found};
+ghost use Rattle.matching.specs.Results.{finding};
 ghost use Rattle.horspool.specs.Horspool.{horspool};
 
-use matching::Finding;
+use matching::{Refusal, Tally};
 
 // Finds the pattern in the text; the scratch's first 256 entries are Horspool's afterwards.
-pub fn find(pattern: &[u8], text: &[u8], scratch: &mut [u16], list: &mut [u32]) -> Finding
-    ensures { Found horspool pattern.now text.now scratch.old list.old result scratch.new list.new }
+pub fn find(
+    pattern: &[u8],
+    text: &[u8],
+    scratch: &mut [u16],
+    list: &mut [u32],
+) -> Result<Tally, Refusal>
+    ensures { Found horspool pattern.now text.now scratch.old list.old (finding result) scratch.new list.new }
 {
     let m = pattern.len();
     let n = text.len();
-    let refusal = matching::refused(m, n, scratch.len(), 256);
-    if refusal != 0 {
-        return Finding {
-            refusal,
-            total: 0,
-            comparisons: 0,
-        };
-    }
+    matching::refused(m, n, scratch.len(), 256)?;
     letter_tables::horspool_table(pattern, scratch);
     let end = m - 1;
     let mut total = 0;
@@ -37,11 +36,8 @@ pub fn find(pattern: &[u8], text: &[u8], scratch: &mut [u16], list: &mut [u32]) 
         }
         s += scratch[text[s + end] as usize] as usize;
     }
-    let found = total as u32;
-    let looks = compared as u32;
-    Finding {
-        refusal: 0,
-        total: found,
-        comparisons: looks,
-    }
+    Ok(Tally {
+        total: total as u32,
+        comparisons: compared as u32,
+    })
 }

@@ -1,4 +1,4 @@
--- The laws of this crate: its steps are right, and what its search cites of one window and of its tables.
+-- The laws of this crate: its steps are right, and what its search cites of its tables and of one window.
 pub mod Sound
-pub mod Steps
 pub mod Ready
+pub mod Steps

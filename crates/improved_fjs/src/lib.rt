@@ -7,23 +7,26 @@ ghost use Rattle.std.specs.Prelude.{◌≡◌, ◌+◌, ◌≤◌, length};
 ghost use Rattle.letter_tables.specs.Gaps.{widest_gap};
 ghost use Rattle.matching.specs.Received.{received};
 ghost use Rattle.matching.specs.Find.{Found};
+ghost use Rattle.matching.specs.Results.{finding};
 ghost use Rattle.improved_fjs.specs.ImprovedFjs.{improved_fjs};
 ghost use Rattle.improved_fjs.specs.Search.{Ready, Searched};
 
 use letter_tables::Gap;
-use matching::Finding;
+use matching::{Refusal, Tally};
 
 // Makes the three tables: the scratch's first 256 entries are lent to the Sunday maker and the part from 256 on to the maker of the KMP entries and MAX_Shift, which hands the widest gap back.
 fn make_tables(pattern: &[u8], scratch: &mut [u16]) -> Gap
-    requires { (length pattern.now ≤ 1024) × (256 + ((length pattern.now + 1) + (length pattern.now + 1)) ≤ length scratch.old) }
-    ensures { (result ≡ widest_gap pattern.now) × (scratch.new ≡ received scratch.old (improved_fjs.tables pattern.now)) }
+    requires short { length pattern.now ≤ 1024 }
+    requires room { 256 + ((length pattern.now + 1) + (length pattern.now + 1)) ≤ length scratch.old }
+    ensures gap { result ≡ widest_gap pattern.now }
+    ensures made { scratch.new ≡ received scratch.old (improved_fjs.tables pattern.now) }
 {
     letter_tables::sunday_table(pattern, &mut scratch[..256]);
     border_tables::max_shift_table(pattern, &mut scratch[256..])
 }
 
 // Finds all occurrences. The window starts at s, its first q letters are carried, and letter mdp stands at the place `gap` of the pattern.
-fn search(pattern: &[u8], text: &[u8], scratch: &[u16], gap: usize, list: &mut [u32]) -> Finding
+fn search(pattern: &[u8], text: &[u8], scratch: &[u16], gap: usize, list: &mut [u32]) -> Tally
     requires { Ready pattern.now text.now scratch.now gap }
     ensures { Searched pattern.now text.now list.old result list.new }
 {
@@ -45,58 +48,46 @@ fn search(pattern: &[u8], text: &[u8], scratch: &[u16], gap: usize, list: &mut [
                 continue;
             }
         }
-        let mut k = q;
-        while k < m {
-            if pattern[k] != text[s + k] {
-                break;
-            }
-            k += 1;
-        }
-        compared += k - q;
+        let equal = matching::compare_up(&pattern[q..], &text[s + q..s + m]);
+        let k = q + equal;
+        compared += equal;
         if k < m {
             compared += 1;
         } else {
             matching::store(list, total, s as u32);
             total += 1;
         }
-        let mut shift = 0;
-        if 0 < q {
-            shift = k + 1 - scratch[256 + k] as usize; // KMP_Shift
+        let shift = if 0 < q {
+            k + 1 - scratch[256 + k] as usize // KMP_Shift
         } else {
-            shift = scratch[256 + (m + 1) + k] as usize; // MAX_Shift
-        }
+            scratch[256 + (m + 1) + k] as usize // MAX_Shift
+        };
         s += shift;
-        q = 0;
-        if shift < k {
-            q = k - shift;
-        }
+        q = k.saturating_sub(shift);
     }
-    let found = total as u32;
-    let looks = compared as u32;
-    Finding {
-        refusal: 0,
-        total: found,
-        comparisons: looks,
+    Tally {
+        total: total as u32,
+        comparisons: compared as u32,
     }
 }
 
 // Finds the pattern in the text; the scratch holds 256 Sunday entries, the KMP entries b[1] to b[m + 1] and MAX_Shift[1] to MAX_Shift[m + 1] afterwards.
-pub fn find(pattern: &[u8], text: &[u8], scratch: &mut [u16], list: &mut [u32]) -> Finding
-    ensures { Found improved_fjs pattern.now text.now scratch.old list.old result scratch.new list.new }
+pub fn find(
+    pattern: &[u8],
+    text: &[u8],
+    scratch: &mut [u16],
+    list: &mut [u32],
+) -> Result<Tally, Refusal>
+    ensures { Found improved_fjs pattern.now text.now scratch.old list.old (finding result) scratch.new list.new }
 {
     let m = pattern.len();
-    let mut needed = 0;
-    if m <= 1024 {
-        needed = 256 + (m + 1 + (m + 1)); // a longer pattern is refused whatever it needs
-    }
-    let refusal = matching::refused(m, text.len(), scratch.len(), needed);
-    if refusal != 0 {
-        return Finding {
-            refusal,
-            total: 0,
-            comparisons: 0,
-        };
-    }
+    let tabled = m.min(1024); // a longer pattern is refused whatever scratch it would need
+    matching::refused(
+        m,
+        text.len(),
+        scratch.len(),
+        256 + (tabled + 1 + (tabled + 1)),
+    )?;
     let widest = make_tables(pattern, scratch);
-    search(pattern, text, scratch, widest.letter - 1, list)
+    Ok(search(pattern, text, scratch, widest.letter - 1, list))
 }

@@ -5,40 +5,37 @@
 
 ghost use Rattle.std.specs.Prelude.{◌-◌, ◌*◌, ◌≤◌, length};
 ghost use Rattle.matching.specs.Find.{Found};
+ghost use Rattle.matching.specs.Results.{finding};
 ghost use Rattle.kmp.specs.Kmp.{kmp};
 
-use matching::Finding;
+use matching::{Refusal, Tally};
 
 // Finds the pattern in the text; the scratch's front holds b[1] to b[m + 1] afterwards. The window starts at s, and its first q letters are carried.
-pub fn find(pattern: &[u8], text: &[u8], scratch: &mut [u16], list: &mut [u32]) -> Finding
-    ensures found { Found kmp pattern.now text.now scratch.old list.old result scratch.new list.new }
-    ensures bounded { length pattern.now ≤ length text.now → result.comparisons ≤ 2 * length text.now - length pattern.now }
+pub fn find(
+    pattern: &[u8],
+    text: &[u8],
+    scratch: &mut [u16],
+    list: &mut [u32],
+) -> Result<Tally, Refusal>
+    ensures found { Found kmp pattern.now text.now scratch.old list.old (finding result) scratch.new list.new }
+    ensures bounded { length pattern.now ≤ length text.now → (finding result).comparisons ≤ 2 * length text.now - length pattern.now }
 {
     let m = pattern.len();
     let n = text.len();
-    let refusal = matching::refused(m, n, scratch.len(), m + 1);
-    if refusal != 0 {
-        return Finding {
-            refusal,
-            total: 0,
-            comparisons: 0,
-        };
-    }
+    matching::refused(m, n, scratch.len(), m + 1)?;
     border_tables::kmp_table(pattern, scratch);
     let mut total = 0;
     let mut compared = 0;
     let mut s = 0;
-    let mut q = 0;
+    let mut q: usize = 0;
     while s + m <= n {
-        let mut k = q;
-        if q == 0 {
-            if pattern[0] != text[s] {
-                compared += 1;
-                s += 1;
-                continue;
-            }
-            k = 1;
+        if q == 0 && pattern[0] != text[s] {
+            compared += 1;
+            s += 1;
+            continue;
         }
+        // Tried: `matching::compare_up` from letter k + 1 on. It is slower, by 5 to 20 in 100: its count is tested again after the loop.
+        let mut k = q.max(1); // where nothing is carried the first letter was just found equal
         while k < m {
             if pattern[k] != text[s + k] {
                 break;
@@ -54,16 +51,10 @@ pub fn find(pattern: &[u8], text: &[u8], scratch: &mut [u16], list: &mut [u32]) 
         }
         let b = scratch[k] as usize;
         s += k + 1 - b;
-        q = 0;
-        if 1 < b {
-            q = b - 1;
-        }
+        q = b.saturating_sub(1);
     }
-    let found = total as u32;
-    let looks = compared as u32;
-    Finding {
-        refusal: 0,
-        total: found,
-        comparisons: looks,
-    }
+    Ok(Tally {
+        total: total as u32,
+        comparisons: compared as u32,
+    })
 }

@@ -3,40 +3,31 @@
 #![tactic(auto)]
 
 ghost use Rattle.matching.specs.Find.{Found};
+ghost use Rattle.matching.specs.Results.{finding};
 ghost use Rattle.naive.specs.Naive.{naive};
 
-use matching::Finding;
+use matching::{Refusal, Tally};
 
 // Finds the pattern in the text; the scratch is not needed, and is left as it was.
-pub fn find(pattern: &[u8], text: &[u8], scratch: &mut [u16], list: &mut [u32]) -> Finding
-    ensures { Found naive pattern.now text.now scratch.old list.old result scratch.new list.new }
+pub fn find(
+    pattern: &[u8],
+    text: &[u8],
+    scratch: &mut [u16],
+    list: &mut [u32],
+) -> Result<Tally, Refusal>
+    ensures { Found naive pattern.now text.now scratch.old list.old (finding result) scratch.new list.new }
 {
     let m = pattern.len();
     let n = text.len();
-    let refusal = matching::refused(m, n, scratch.len(), 0);
-    if refusal != 0 {
-        return Finding {
-            refusal,
-            total: 0,
-            comparisons: 0,
-        };
-    }
+    matching::refused(m, n, scratch.len(), 0)?;
     let mut total = 0;
     let mut compared = 0;
-    let mut s = 0;
-    while s + m <= n {
+    for s in 0..(n + 1).saturating_sub(m) {
         if pattern[0] != text[s] {
             compared += 1;
-            s += 1;
             continue;
         }
-        let mut k = 1;
-        while k < m {
-            if pattern[k] != text[s + k] {
-                break;
-            }
-            k += 1;
-        }
+        let k = 1 + matching::compare_up(&pattern[1..], &text[s + 1..s + m]);
         compared += k;
         if k < m {
             compared += 1;
@@ -44,13 +35,9 @@ pub fn find(pattern: &[u8], text: &[u8], scratch: &mut [u16], list: &mut [u32]) 
             matching::store(list, total, s as u32);
             total += 1;
         }
-        s += 1; // by 1 also after an occurrence, since occurrences overlap
     }
-    let found = total as u32;
-    let looks = compared as u32;
-    Finding {
-        refusal: 0,
-        total: found,
-        comparisons: looks,
-    }
+    Ok(Tally {
+        total: total as u32,
+        comparisons: compared as u32,
+    })
 }

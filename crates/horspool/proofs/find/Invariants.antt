@@ -1,0 +1,20 @@
+-- `horspool::find`: the loop's invariant is the run's progress (`matching`), with the window at s, and the table by its rule (`letter_tables`).
+use Prim.Native.Nat.{◌+◌, ◌-◌, ◌≤◌}
+use lib.ListN.{length}
+use Rattle.matching.specs.Machine.{at}
+use Rattle.matching.proofs.Progress.{Looping}
+use Rattle.tables.specs.Tables.{Entries}
+use Rattle.letter_tables.specs.BadCharacter.{horspool_entry}
+use Rattle.horspool.specs.Horspool.{horspool}
+use Rattle.horspool.proofs.find.Given as goal
+
+abbrev pub invariant-loop-s : goal.invariant-loop-s
+invariant-loop-s l =
+    record {
+      run : Looping horspool l.pattern l.text l.initial.list (at l.s 0) l.total l.compared l.list;
+      inside : l.s ≤ length l.text;
+      table : Entries 0 256 (horspool_entry l.pattern) l.scratch;
+    }
+
+abbrev pub decreases-loop-s : goal.decreases-loop-s
+decreases-loop-s l = length l.text + 1 - l.s

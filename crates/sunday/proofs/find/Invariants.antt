@@ -1,0 +1,28 @@
+-- `sunday::find`: the loop's invariant is the run's progress (`matching`), with the window at s, and the table by its rule (`letter_tables`);
+-- the inner loop reaches as far from letter k + 1 on as from the first.
+use Prim.Native.Nat.{◌+◌, ◌-◌, ◌≤◌}
+use lib.ListN.{length}
+use Rattle.matching.specs.Machine.{at}
+use Rattle.matching.proofs.Letters.{Upward}
+use Rattle.matching.proofs.Progress.{Looping}
+use Rattle.tables.specs.Tables.{Entries}
+use Rattle.letter_tables.specs.BadCharacter.{sunday_entry}
+use Rattle.sunday.specs.Sunday.{sunday}
+use Rattle.sunday.proofs.find.Given as goal
+
+abbrev pub invariant-loop-s : goal.invariant-loop-s
+invariant-loop-s l =
+    record {
+      run : Looping sunday l.pattern l.text l.initial.list (at l.s 0) l.total l.compared l.list;
+      inside : l.s ≤ length l.text;
+      table : Entries 0 256 (sunday_entry l.pattern) l.scratch;
+    }
+
+abbrev pub decreases-loop-s : goal.decreases-loop-s
+decreases-loop-s l = length l.text + 1 - l.s
+
+abbrev pub invariant-loop-k : goal.invariant-loop-k
+invariant-loop-k l = Upward l.pattern l.text l.s 0 (length l.pattern) l.k
+
+abbrev pub decreases-loop-k : goal.decreases-loop-k
+decreases-loop-k l = length l.pattern - l.k
