@@ -1,4 +1,4 @@
--- The moves along the search, one window of it as its code goes through it, and what the public functions bring to it and make of what it found.
-pub mod Tracked
-pub mod Steps
+-- What the public functions bring to the search that they share and make of what it found, and one window of that search as its code goes through it.
 pub mod Ready
+pub mod Steps
+pub mod Listed

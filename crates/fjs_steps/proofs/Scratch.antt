@@ -18,4 +18,4 @@ module _ {P T scratch : List ℕ} (r : Ready P T scratch) where
   kmps = second-entries 256 (length P + 1) (sunday_entry P) (kmp_entry P) r.rest r.tables
 
   pub limits : Within (length P) (length T) (length scratch) (fjs.entries (length P))
-  limits = record { some = r.some; short = r.short; small = r.small; room = kmps.room }
+  limits = record { some = r.some; short = r.short; small = r.small; room = r.room }

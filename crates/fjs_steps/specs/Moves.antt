@@ -41,6 +41,11 @@ numbers (m ∷ ms) = m.old ∷ m.new ∷ rule_number m.rule ∷ numbers ms
 abbrev pub fitting : ℕ → List Move → List ℕ
 fitting entries ms = numbers (take (entries / 3) ms)
 
+-- what is told of moves one after another, as it is after them: `after` says what it is after one move, from an old start to a new one by a rule. Not part of any public promise
+unfoldable pub told : {A : Type 0} → (A → ℕ → ℕ → ℕ → A) → A → List Move → A
+told after a [] = a
+told after a (m ∷ ms) = told after (after a m.old m.new (rule_number m.rule)) ms
+
 -- a list of moves with the three numbers of a move set at its index, where it has room for all three. Not part of any public promise
 abbrev pub put_move : List ℕ → ℕ → ℕ → ℕ → ℕ → List ℕ
 put_move list index old new rule = cond (leb (3 * index + 3) (length list)) (set (set (set list (3 * index) old) (3 * index + 1) new) (3 * index + 2) rule) list
