@@ -3,3 +3,4 @@ pub mod Agree
 pub mod Demand3
 pub mod KmpBound
 pub mod Joined
+pub mod Methods
