@@ -4,13 +4,19 @@ use Prim.Native.Nat.{ℕ, zero, suc, ◌+◌, ◌-◌, ◌≤◌, ◌<◌}
 use native.Mathlib.Omega.{arith}
 use mathlib.Core.Bool.{true, ◌&&◌}
 use lib.Dec.{leb}
-use borrow.Author.Tests.{leb-true, le-leb}
+use borrow.Author.Tests.{leb-true, le-leb, lt-leb}
+use Rattle.std.specs.Prelude.{Err}
 use Rattle.matching.specs.declared.Answer.{Answer}
+use Rattle.matching.specs.declared.refusal.Refusal.{Refusal}
+use Rattle.matching.specs.Results.{number_of}
 use Rattle.matching.proofs.CaseAnalysis.{by-test, both}
+use Rattle.matching.proofs.Find.{number-some}
 use Rattle.calendar.specs.declared.CalendarDate.{CalendarDate}
+use Rattle.calendar.specs.declared.dates.Date.{Date}
 use Rattle.calendar.specs.declared.Within.{Within}
-use Rattle.calendar.specs.Calendar.{year_length, month_length, Date, ymd, in_calendar, date_of, years_days, months_days, day_of, last_day, day_answer, date_answer}
+use Rattle.calendar.specs.Calendar.{year_length, month_length, ymd, in_calendar, date_of, years_days, months_days, day_of, last_day, day_refusal, day_answer, date_answer, calendar_date}
 use Rattle.calendar.specs.Found.{YearAt, MonthAt}
+use Rattle.calendar.proofs.Days.{day-late}
 use Rattle.calendar.proofs.Counting.{year-months, months-more, years-more, months-up, years-up, years-fewer, all-days, Sound, next-counts}
 
 -- ---- every number counts on to a date of that number
@@ -158,6 +164,11 @@ date-of-day d e = found (in-sound d e).0 (day_of d) refl
 pub day-most : (d : Date) → in_calendar d ≡ true → day_of d ≤ last_day
 day-most d e = let s = in-sound d e in sound-most s.0 s.1
 
+-- the sum that is the number is at most the last
+pub day-parts : (year month day : ℕ) → in_calendar (ymd year month day) ≡ true → years_days (year - 2000) + months_days year (month - 1) + (day - 1) ≤ last_day
+unfolding day_of
+day-parts year month day e = day-most (ymd year month day) e
+
 -- from a number to its date, which is in the calendar up to the last, and back
 pub day-of-date : (n : ℕ) → day_of (date_of n) ≡ n
 day-of-date n = (counted n).1
@@ -195,6 +206,11 @@ module _ (day : ℕ) where
   date-accepted : (date_answer day).refusal ≡ 0 → day ≤ last_day
   unfolding date_answer
   date-accepted e = by-test (λ _. day ≤ last_day) (leb day last_day) (leb-true day last_day) (λ t. let z = rw t at e in absurd (omega arith))
+
+  -- a day that is refused is past the last
+  pub date_refused : (r : Refusal) → number_of r ≡ day_refusal day → calendar_date (Err r) ≡ date_answer day
+  unfolding date_answer
+  date_refused r e = let late = day-late day (omega (arith, e, number-some r)) in rw (e, late.1, lt-leb day last_day late.0)
 
 -- an accepted date, its day taken back, is the same date
 pub day-and-back : (year month day : ℕ) → (day_answer year month day).refusal ≡ 0 → date_answer (day_answer year month day).number ≡ record { refusal = 0; year = year; month = month; day = day }

@@ -1,8 +1,11 @@
 -- The calendar (document 02, (viii)): the days of 2000 to 2099 by the Gregorian calendar, numbered from 1 January 2000, which is day 0.
-use Rattle.std.specs.Prelude.{ℕ, zero, suc, ◌+◌, ◌-◌, ◌%◌, Bool, cond, not, ◌&&◌, ◌||◌, List, [], ◌∷◌, eqb, ltb, leb}
+use Rattle.std.specs.Prelude.{ℕ, zero, suc, ◌+◌, ◌-◌, ◌%◌, Bool, cond, not, ◌&&◌, ◌||◌, List, [], ◌∷◌, eqb, ltb, leb, Result, Ok, Err}
 use Rattle.matching.specs.declared.Answer.{Answer}
+use Rattle.matching.specs.declared.refusal.Refusal.{Refusal}
 use Rattle.matching.specs.Refusals.{Test, first_met}
+use Rattle.matching.specs.Results.{number_of}
 use Rattle.calendar.specs.declared.CalendarDate.{CalendarDate}
+use Rattle.calendar.specs.declared.dates.Date.{Date}
 
 -- ---- years, months and dates
 
@@ -20,13 +23,7 @@ unfoldable pub month_length : ℕ → ℕ → ℕ
 unfolding is_leap
 month_length year month = cond (eqb month 2) (cond (is_leap year) 29 28) (cond (eqb month 4 || eqb month 6 || eqb month 9 || eqb month 11) 30 31)
 
--- a date: a year, a month from 1 for January, and a day of the month from 1
-pub record Date : Type 0 where
-  pub year : ℕ
-  pub month : ℕ
-  pub day : ℕ
-
--- the date of these three
+-- the date of a year, a month from 1 for January, and a day of the month from 1
 abbrev pub ymd : ℕ → ℕ → ℕ → Date
 ymd year month day = record { year = year; month = month; day = day }
 
@@ -112,3 +109,8 @@ date_answer day =
     cond (leb day last_day)
     (record { refusal = 0; year = (date_of day).year; month = (date_of day).month; day = (date_of day).day })
     (record { refusal = 16; year = 0; month = 0; day = 0 })
+
+-- a date as C receives it: zeros where it is refused
+abbrev pub calendar_date : Result Date Refusal → CalendarDate
+calendar_date (Ok d) = record { refusal = 0; year = d.year; month = d.month; day = d.day }
+calendar_date (Err r) = record { refusal = number_of r; year = 0; month = 0; day = 0 }
