@@ -9,6 +9,8 @@ use lib.ListN.{length, get_or, take, drop, length-drop, length-append}
 use lib.Seq.{get_or-append_seam}
 use lib.Dec.{eqb, ltb}
 use borrow.Author.Tests.{eq-eqb, ne_eqb, eqb-true, eqb-false, lt-ltb, le-ltb, ltb-true, ltb-false}
+use Rattle.std.specs.Prelude.{Result}
+use Rattle.matching.specs.declared.refusal.Refusal.{Refusal}
 use Rattle.matching.specs.Joined.{those}
 use Rattle.matching.proofs.CaseAnalysis.{by-test}
 use Rattle.matching.proofs.Those.{those-nothing, those-append, those-few}
@@ -16,9 +18,7 @@ use Rattle.cue_fields.specs.Field.{field_body}
 use Rattle.cue_fields.specs.Form.{form_size, after_form, Bytes}
 use Rattle.cue_fields.proofs.Fields.{after-field}
 use Rattle.cue_fields.proofs.Form.{bytes_drop, form-most}
-use Rattle.cues.specs.declared.CueAnswer.{CueAnswer}
-use Rattle.cues.specs.declared.Days.{Days}
-use Rattle.cues.specs.declared.Mark.{Mark}
+use Rattle.cues.specs.declared.Cue as found
 use Rattle.cues.specs.declared.Choice.{Choice}
 use Rattle.cues.specs.Cue.{Cue, cue_form, head_form, plays_on, seen_by, is_chosen}
 use Rattle.cues.specs.Reading.{cue_refusal, cue_size, after_cue, cue_of}
@@ -238,7 +238,7 @@ there-inside {rest} {k} t =
     omega (arith, cue-inside here t.none, (cue-phrase here t.none).header, length-drop (cue_place rest k) rest)
 
 -- `read_cue` at the place of an accepted book's cue gives that cue, whole, and ends where the next one begins
-pub cue-there : (book : List ℕ) (before : List Cue) (c : Cue) (later : List Cue) → read_book book ≡ cues (before ++ c ∷ later) → {r : CueAnswer}
+pub cue-there : (book : List ℕ) (before : List Cue) (c : Cue) (later : List Cue) → read_book book ≡ cues (before ++ c ∷ later) → {r : Result found.Cue Refusal}
     → CueRead book (cue_place book (length before)) r → CueBack book (length before) c r
 unfolding cue_at cue_place
 cue-there book before c later e {r} read =
@@ -416,32 +416,22 @@ counted-few {book} {who} a =
     let done : List Cue = a.so_far.done in
     omega (arith, a.are, those-few (plays_on who.day) (seen who.role done), those-few (seen_by who.role) done, a.so_far.counted)
 
-module _
-    {book : List ℕ}
-    {who : Choice}
-    {index place count phrase phrase-end ordinal title title-end end : ℕ}
-    {days : Days}
-    {mark : Mark}
-    (a : Counted book who index place count)
-    (inside : place < length book)
-    (few : index < 999)
-    (c : CueAt book place phrase phrase-end ordinal title title-end days mark end)
-  where
-    -- one cue more, which counts for 1 or for 0
-    counted-on : {more : ℕ} → more ≡ cond (is_chosen who mark days) 1 0 → Counted book who (index + 1) end (count + more)
-    unfolding so-far-next
-    counted-on e =
-        let d = cue_of (drop place book) in
-        let one = for-one who d in
-        let told : length (playing_for who (d ∷ [])) ≡ cond (is_chosen who mark days) 1 0 = one ∙ ap (λ (x : Cue). cond (is_chosen who x.mark x.days) 1 0) (sym c.meant) in
-        record { so_far = so-far-next a.so_far inside few c.none c.end_is; are = omega (arith, a.are, for-more who a.so_far.done d, told, e) }
+module _ {book : List ℕ} {who : Choice} {index place count : ℕ} {cue : found.Cue} (a : Counted book who index place count) (inside : place < length book) (few : index < 999) (c : CueAt book place cue) where
+  -- one cue more, which counts for 1 or for 0
+  counted-on : {more : ℕ} → more ≡ cond (is_chosen who cue.mark cue.days) 1 0 → Counted book who (index + 1) cue.end (count + more)
+  unfolding so-far-next
+  counted-on e =
+      let d = cue_of (drop place book) in
+      let one = for-one who d in
+      let told : length (playing_for who (d ∷ [])) ≡ cond (is_chosen who cue.mark cue.days) 1 0 = one ∙ ap (λ (x : Cue). cond (is_chosen who x.mark x.days) 1 0) (sym c.meant) in
+      record { so_far = so-far-next a.so_far inside few c.none (ap (λ (x : found.Cue). x.end) c.is); are = omega (arith, a.are, for-more who a.so_far.done d, told, e) }
 
-    -- it is chosen, or it is not
-    pub counted-chosen : is_chosen who mark days ≡ true → Counted book who (index + 1) end (count + 1)
-    counted-chosen e = counted-on (rw e)
-
-    pub counted-not : is_chosen who mark days ≡ false → Counted book who (index + 1) end count
-    counted-not e = let none : count + 0 ≡ count = omega arith in subst (Counted book who (index + 1) end) none (counted-on (rw e))
+  -- it is chosen, or it is not
+  pub counted_next : {more : ℕ} → (is_chosen who cue.mark cue.days ≡ true → more ≡ count + 1) → (is_chosen who cue.mark cue.days ≡ false → more ≡ count) → Counted book who (index + 1) cue.end more
+  counted_next {more} is_one is_none =
+      by-test (λ _. Counted book who (index + 1) cue.end more) (is_chosen who cue.mark cue.days)
+      (λ t. rw (is_one t) (counted-on (rw t)))
+      (λ t. let none : more ≡ count + 0 = omega (arith, is_none t) in rw none (counted-on (rw t)))
 
 -- what a book read for a role and a day gives back: by the definition, of a refused book, and of one that is accepted
 pub chosen_is : (who : Choice) (book : List ℕ) → chosen_answer who book ≡ record { refusal = refusal_of (read_book book); number = chosen_of who (read_book book) }
@@ -473,20 +463,21 @@ noted_other {book} {wanted} {index} {p} other n =
     past : index ≤ wanted → index + 1 ≤ wanted
     past h = by-test (λ _. index + 1 ≤ wanted) (eqb index wanted) (λ e. absurd (other (eqb-true index wanted e))) (λ e. omega (arith, eqb-false index wanted e))
 
-module _
-    {book : List ℕ}
-    {index place phrase phrase-end ordinal title title-end end : ℕ}
-    {days : Days}
-    {mark : Mark}
-    (a : ReadSoFar book index place)
-    (c : CueAt book place phrase phrase-end ordinal title title-end days mark end)
-  where
-    pub noted-this : {wanted : ℕ} → index ≡ wanted → Noted book wanted (index + 1) (record { start = title; len = title-end - title })
-    noted-this {wanted} e =
-        let here : cue_place book wanted ≡ place = ap (cue_place book) (sym e) ∙ sym a.here in
-        let start : title ≡ (title_in book wanted).start = c.title-is ∙ ap (λ (k : ℕ). k + start_of_title (drop k book)) (sym here) in
-        let len : title-end - title ≡ title_length (drop place book) = omega (arith, (title-ends c).0) in
-        record { is = rw (lt-ltb wanted (index + 1) (omega arith)) (ap₂ (λ (s l : ℕ). record { start = s; len = l }) start (len ∙ ap (λ (k : ℕ). title_length (drop k book)) (sym here))) }
+pub noted-this : {book : List ℕ} {wanted index place : ℕ} {cue : found.Cue} → ReadSoFar book index place → CueAt book place cue → index ≡ wanted
+    → Noted book wanted (index + 1) (record { start = cue.title.start; len = cue.title.end - cue.title.start })
+noted-this {book} {wanted} {index} {place} {cue} a c e =
+    let here : cue_place book wanted ≡ place = ap (cue_place book) (sym e) ∙ sym a.here in
+    let start : cue.title.start ≡ (title_in book wanted).start = ap (λ (x : found.Cue). x.title.start) c.is ∙ ap (λ (k : ℕ). k + start_of_title (drop k book)) (sym here) in
+    let len : cue.title.end - cue.title.start ≡ title_length (drop place book) = omega (arith, (title-ends c).0) in
+    record { is = rw (lt-ltb wanted (index + 1) (omega arith)) (ap₂ (λ (s l : ℕ). record { start = s; len = l }) start (len ∙ ap (λ (k : ℕ). title_length (drop k book)) (sym here))) }
+
+-- the next cue is the wanted one, or it is another
+pub noted_next : {book : List ℕ} {wanted index place : ℕ} {cue : found.Cue} {p p' : Part} → ReadSoFar book index place → CueAt book place cue → Noted book wanted index p
+    → (index ≡ wanted → p' ≡ record { start = cue.title.start; len = cue.title.end - cue.title.start }) → ((index ≡ wanted → ⊥) → p' ≡ p) → Noted book wanted (index + 1) p'
+noted_next {book} {wanted} {index} {p' = p'} a c n this other =
+    by-test (λ _. Noted book wanted (index + 1) p') (eqb index wanted)
+    (λ t. let e = eqb-true index wanted t in record { is = this e ∙ (noted-this a c e).is })
+    (λ t. let e = eqb-false index wanted t in record { is = other e ∙ (noted_other e n).is })
 
 -- what is shown in the end: by the definition, of a refused book, and of one that is accepted
 part-is : (book : List ℕ) (wanted : ℕ) → title_part book wanted ≡ cond (ltb wanted (length (cues_in (read_book book)))) (title_in book wanted) front
@@ -523,6 +514,10 @@ title-shows book k =
     let t = book-there book k d (some-cues (read_book book) h) h in
     record { inside = omega (arith, there-inside t, title-last (drop (cue_place book k) book)); holds = title-part book k ∙ title-there t ∙ title-of cs k d h })
     (λ t. record { inside = omega arith; holds = sym (title-past cs k (ltb-false k (length cs) t)) }))
+
+-- so a part that is the title's shows it
+pub placed-shows : {book : List ℕ} {k : ℕ} {p : Part} → p ≡ title_part book k → TitlePlaced book k p
+placed-shows {book} {k} is = record { answer = is; shows = ap (λ (q : Part). take q.len (drop q.start book)) is ∙ (title-shows book k).holds }
 
 -- the part of a title that was placed lies in the book
 pub placed-inside : {book : List ℕ} {k : ℕ} {r : Part} → TitlePlaced book k r → r.start + r.len ≤ length book

@@ -7,16 +7,18 @@ use mathlib.Core.List.{List, [], ◌∷◌}
 use lib.ListN.{length, get_or, take, drop, length-drop}
 use lib.Seq.{drop-drop}
 use lib.Dec.{eqb}
-use denote.Enum.Declared as declared
 use borrow.Author.Tests.{eq-eqb, ne_eqb, eqb-true, ltb-false, lt-ltb, le-ltb}
+use Rattle.std.specs.Prelude.{Ok, Err}
+use Rattle.matching.specs.declared.refusal.Refusal.{Refusal}
+use Rattle.matching.specs.declared.refusal.Refusal.TheVariants.{UnknownMethod, NoPhrase, LongPhrase, LongText, ShortScratch, ShortBuffer, CutField, WrongTag, BadField, LongBook, ShortEntries, NoOccurrence, LongCue, UnknownPage, NotForward, BadDate, BadStretch, BadList, NotAllowed}
 use Rattle.matching.specs.Refusals.{first_met}
+use Rattle.matching.specs.Results.{number_of}
+use Rattle.matching.proofs.Find.{number-some}
 use Rattle.matching.proofs.Refusals.{Passed, none-met, numbers_to, all-passed, gapped, met-gap}
 use Rattle.cue_fields.specs.declared.Due.{Due}
 use Rattle.cue_fields.specs.declared.Due.TheVariants.{Phrase, Ordinal, Title, Dates, House}
-use Rattle.cue_fields.specs.declared.FieldAnswer.{FieldAnswer}
-use Rattle.cue_fields.specs.declared.FieldAnswer.TheVariants.{Body, Refused}
-use Rattle.cue_fields.specs.contracts.FieldAnswer as answers
-use Rattle.cue_fields.specs.Field.{tag_of, allowed, value_tests, field_tests, field_length, field_size, field_body, field_refusal, part, field_number, bodies_meant, field_at, FieldRead}
+use Rattle.cue_fields.specs.declared.Span.{Span}
+use Rattle.cue_fields.specs.Field.{tag_of, allowed, value_tests, field_tests, field_length, field_size, field_body, field_refusal, refusal_named, part, span, bytes_in, field_at, FieldRead}
 
 -- ---- a field that is read
 
@@ -85,67 +87,77 @@ body-part book place n =
     let e : place + (3 + n) - (place + 3) ≡ n = omega arith in
     ap₂ (λ (k : ℕ) (l : List ℕ). take k l) e (after-field book place 3)
 
-module _ (book : List ℕ) (place : ℕ) (due : Due) where
-  pub at-refused : {number : ℕ} → field_refusal due (drop place book) ≡ number → (number ≡ 0 → ⊥) → FieldRead book place due (Refused number)
-  unfolding field_at
-  at-refused {number} e some =
-      let off = ne_eqb (field_refusal due (drop place book)) 0 (λ z. some (sym e ∙ z)) in
-      record { answer = rw off (ap Refused (sym e)); number = sym e; meant = rw off }
+-- the refusal that has a refusal's number is that one
+pub named_back : (r : Refusal) → refusal_named (number_of r) ≡ r
+named_back UnknownMethod = refl
+named_back NoPhrase = refl
+named_back LongPhrase = refl
+named_back LongText = refl
+named_back ShortScratch = refl
+named_back ShortBuffer = refl
+named_back CutField = refl
+named_back WrongTag = refl
+named_back BadField = refl
+named_back LongBook = refl
+named_back ShortEntries = refl
+named_back NoOccurrence = refl
+named_back LongCue = refl
+named_back UnknownPage = refl
+named_back NotForward = refl
+named_back BadDate = refl
+named_back BadStretch = refl
+named_back BadList = refl
+named_back NotAllowed = refl
 
-  pub at_body : field_refusal due (drop place book) ≡ 0 → {start end : ℕ} → start ≡ place + 3 → end ≡ place + field_size (drop place book) → FieldRead book place due (Body start end)
+module _ {book : List ℕ} {place : ℕ} {due : Due} where
+  pub at-refused : (r : Refusal) → number_of r ≡ field_refusal due (drop place book) → FieldRead book place due (Err r)
   unfolding field_at
-  at_body e s t =
+  at-refused r e =
+      let off = ne_eqb (field_refusal due (drop place book)) 0 (λ z. omega (arith, e, z, number-some r)) in
+      record { answer = rw off (ap Err (sym (named_back r) ∙ ap refusal_named e)); number = e; meant = rw off }
+
+  pub at_body : field_refusal due (drop place book) ≡ 0 → (s : Span) → s ≡ span (place + 3) (place + field_size (drop place book)) → FieldRead book place due (Ok s)
+  unfolding field_at
+  at_body e s is =
       let on = eq-eqb (field_refusal due (drop place book)) 0 e in
-      record { answer = rw (on, s, t); number = sym e; meant = rw on (ap (λ (b : List ℕ). b ∷ []) (ap₂ (part book) s t ∙ body-part book place (field_length (drop place book)))) }
+      record { answer = rw (on, is); number = sym e; meant = rw (on, is) (ap (λ (b : List ℕ). b ∷ []) (body-part book place (field_length (drop place book)))) }
+
+-- the same by what is left of the book there: its refusal, and its body's length
+module _ (book : List ℕ) (place : ℕ) (due : Due) {rest : List ℕ} (left : rest ≡ drop place book) where
+  pub rest-refused : {r : Refusal} → number_of r ≡ field_refusal due rest → FieldRead book place due (Err r)
+  rest-refused {r} e = at-refused r (e ∙ ap (field_refusal due) left)
+
+  module _ {n : ℕ} (none : 0 ≡ field_refusal due rest) (is : n ≡ field_length rest) where
+    pub rest-body : FieldRead book place due (Ok (span (place + 3) (place + 3 + n)))
+    rest-body = let ends : place + 3 + n ≡ place + field_size (drop place book) = omega (arith, is, ap field_length left) in at_body (ap (field_refusal due) (sym left) ∙ sym none) _ (ap (span (place + 3)) ends)
+
+    pub rest-inside : place + 3 + n ≤ length book
+    rest-inside = let f = fielded due rest (sym none) in omega (arith, is, f.whole, f.header, ap length left, length-drop place book)
+
+-- past the book's end nothing is left, so that the header is cut
+pub past-refused : (book : List ℕ) (place : ℕ) (due : Due) → length book < place → FieldRead book place due (Err CutField)
+unfolding field_refusal first_met
+past-refused book place due h = at-refused CutField (rw (lt-ltb (length (drop place book)) 3 (omega (arith, length-drop place book))))
 
 -- ---- an answer taken apart
 
 -- the field was read: its body stands there
-pub record BodyAt (book : List ℕ) (place : ℕ) (due : Due) (start end : ℕ) : Type 0 where
+pub record BodyAt (book : List ℕ) (place : ℕ) (due : Due) (s : Span) : Type 0 where
   pub none : field_refusal due (drop place book) ≡ 0
-  pub start_is : start ≡ place + 3
-  pub end_is : end ≡ place + field_size (drop place book)
-  pub body : part book start end ≡ field_body (drop place book)
+  pub is : s ≡ span (place + 3) (place + field_size (drop place book))
+  pub body : bytes_in book s ≡ field_body (drop place book)
 
--- an answer that is a refusal is no reading, whatever its type: `tag` tells a reading (0) from a refusal (1)
-pub told-apart : {A : Type 0} (tag : A → ℕ) {r read : A} → r ≡ read → tag read ≡ 0 → tag r ≡ 1 → ⊥
-told-apart tag is zero one = omega (arith, ap tag is)
-
--- what an answer means is a list of one or none: its first, or else that other
-unfoldable pub first_of : {A : Type 0} → A → List A → A
-first_of other [] = other
-first_of other (x ∷ xs) = x
-
-unfoldable pub start_of : FieldAnswer → ℕ
-start_of (Body start end) = start
-start_of (Refused number) = 0
-
-unfoldable pub end_of : FieldAnswer → ℕ
-end_of (Body start end) = end
-end_of (Refused number) = 0
-
-module _ {book : List ℕ} {place : ℕ} {due : Due} {r : FieldAnswer} (read : FieldRead book place due r) where
-  pub body_at : {start end : ℕ} → r ≡ Body start end → BodyAt book place due start end
-  unfolding field_at start_of end_of first_of
-  body_at {start} {end} e =
-      let none : field_refusal due (drop place book) ≡ 0 = sym read.number ∙ ap field_number e in
-      let on = eq-eqb (field_refusal due (drop place book)) 0 none in
-      let same : Body start end ≡ Body (place + 3) (place + field_size (drop place book)) = sym e ∙ read.answer ∙ rw on in
-      record {
-        none = none;
-        start_is = ap start_of same;
-        end_is = ap end_of same;
-        body = ap (first_of (part book start end)) (ap (bodies_meant book) (sym e) ∙ read.meant) ∙ rw on;
-      }
-
-  -- it was refused: the number is the refusal's
-  pub refused-some : declared.tag_of answers.the_type r ≡ 1 → field_number r ≡ 0 → ⊥
-  unfolding field_at
-  refused-some t z =
-      let on = eq-eqb (field_refusal due (drop place book)) 0 (sym read.number ∙ z) in
-      let is : r ≡ Body (place + 3) (place + field_size (drop place book)) = read.answer ∙ rw on in
-      told-apart (declared.tag_of answers.the_type) is refl t
+pub body_at : {book : List ℕ} {place : ℕ} {due : Due} {s : Span} → FieldRead book place due (Ok s) → BodyAt book place due s
+unfolding field_at
+body_at {book} {place} {due} {s} read =
+    let none : field_refusal due (drop place book) ≡ 0 = sym read.number in
+    let on = eq-eqb (field_refusal due (drop place book)) 0 none in
+    let same : Ok s ≡ Ok (span (place + 3) (place + field_size (drop place book))) = read.answer ∙ rw on in
+    let meant : bytes_in book s ∷ [] ≡ field_body (drop place book) ∷ [] = read.meant ∙ rw on in
+    record { none = none; is = cc; body = cc }
 
 -- the body lies in the book, and its start is no later than its end
-pub body-inside : {book : List ℕ} {place : ℕ} {due : Due} {start end : ℕ} → BodyAt book place due start end → (start ≤ end) × (end ≤ length book)
-body-inside {book} {place} {due} b = let f = fielded due (drop place book) b.none in (omega (arith, b.start_is, b.end_is), omega (arith, b.end_is, f.whole, f.header, length-drop place book))
+pub body-inside : {book : List ℕ} {place : ℕ} {due : Due} {s : Span} → BodyAt book place due s → (s.start ≤ s.end) × (s.end ≤ length book)
+body-inside {book} {place} {due} b =
+    let f = fielded due (drop place book) b.none in
+    rw b.is (omega arith, omega (arith, f.whole, f.header, length-drop place book))

@@ -1,12 +1,14 @@
 -- A field of a cue book (document 01, "Cue book, folding, lines"; document 02, (viii) and (xiv)): its bytes, and what reading it gives on every byte string, with the tests in the document's order. `rest` is what is
 -- left of the book at the field.
-use Rattle.std.specs.Prelude.{◌≡◌, ℕ, ◌+◌, ◌-◌, ◌*◌, ◌/◌, ◌%◌, Bool, cond, not, ◌&&◌, List, [], ◌∷◌, ◌++◌, length, get_or, take, drop, eqb, ltb, leb}
+use Rattle.std.specs.Prelude.{◌≡◌, ℕ, ◌+◌, ◌-◌, ◌*◌, ◌/◌, ◌%◌, Bool, cond, not, ◌&&◌, List, [], ◌∷◌, ◌++◌, length, get_or, take, drop, eqb, ltb, leb, Result, Ok, Err}
+use Rattle.matching.specs.declared.refusal.Refusal.{Refusal}
+use Rattle.matching.specs.declared.refusal.Refusal.TheVariants.{UnknownMethod, NoPhrase, LongPhrase, LongText, ShortScratch, ShortBuffer, CutField, WrongTag, BadField, LongBook, ShortEntries, NoOccurrence, LongCue, UnknownPage, NotForward, BadDate, BadStretch, BadList, NotAllowed}
 use Rattle.matching.specs.Refusals.{Test, first_met}
+use Rattle.matching.specs.Results.{refused_by}
 use Rattle.calendar.specs.Calendar.{days_tests}
 use Rattle.cue_fields.specs.declared.Due.{Due}
 use Rattle.cue_fields.specs.declared.Due.TheVariants.{Phrase, Ordinal, Title, Dates, House}
-use Rattle.cue_fields.specs.declared.FieldAnswer.{FieldAnswer}
-use Rattle.cue_fields.specs.declared.FieldAnswer.TheVariants.{Body, Refused}
+use Rattle.cue_fields.specs.declared.Span.{Span}
 
 -- ---- its bytes
 
@@ -91,30 +93,41 @@ field_refusal due rest = first_met (field_tests due rest)
 
 -- ---- the answer
 
+-- the refusals, from number 1 on, and the one that has a number
+abbrev pub refusals : List Refusal
+refusals =
+    UnknownMethod ∷ NoPhrase ∷ LongPhrase ∷ LongText ∷ ShortScratch ∷ ShortBuffer ∷ CutField ∷ WrongTag ∷ BadField ∷ LongBook ∷
+    ShortEntries ∷ NoOccurrence ∷ LongCue ∷ UnknownPage ∷ NotForward ∷ BadDate ∷ BadStretch ∷ BadList ∷ NotAllowed ∷ []
+
+abbrev pub refusal_named : ℕ → Refusal
+refusal_named number = get_or refusals (number - 1) NotAllowed
+
 -- the bytes of a book from a start up to an end
 abbrev pub part : List ℕ → ℕ → ℕ → List ℕ
 part book start end = take (end - start) (drop start book)
 
--- the refusal's number of an answer, 0 for a field
-abbrev pub field_number : FieldAnswer → ℕ
-field_number (Body start end) = 0
-field_number (Refused number) = number
+-- the part of these two ends, and the bytes of a part
+abbrev pub span : ℕ → ℕ → Span
+span start end = record { start = start; end = end }
+
+abbrev pub bytes_in : List ℕ → Span → List ℕ
+bytes_in book s = part book s.start s.end
 
 -- the body that an answer means: the part of the book where it stands. A refusal means none
-abbrev pub bodies_meant : List ℕ → FieldAnswer → List (List ℕ)
-bodies_meant book (Body start end) = part book start end ∷ []
-bodies_meant book (Refused number) = []
+abbrev pub bodies_meant : List ℕ → Result Span Refusal → List (List ℕ)
+bodies_meant book (Ok s) = bytes_in book s ∷ []
+bodies_meant book (Err r) = []
 
 -- the answer at a place: the body starts after the header's three bytes
-unfoldable pub field_at : List ℕ → ℕ → Due → FieldAnswer
+unfoldable pub field_at : List ℕ → ℕ → Due → Result Span Refusal
 unfolding field_refusal number_in
 field_at book place due =
     cond (eqb (field_refusal due (drop place book)) 0)
-    (Body (place + 3) (place + field_size (drop place book)))
-    (Refused (field_refusal due (drop place book)))
+    (Ok (span (place + 3) (place + field_size (drop place book))))
+    (Err (refusal_named (field_refusal due (drop place book))))
 
 -- what is read there, its number in document 01, and the body that it means
-pub record FieldRead (book : List ℕ) (place : ℕ) (due : Due) (r : FieldAnswer) : Type 0 where
+pub record FieldRead (book : List ℕ) (place : ℕ) (due : Due) (r : Result Span Refusal) : Type 0 where
   pub answer : r ≡ field_at book place due
-  pub number : field_number r ≡ field_refusal due (drop place book)
+  pub number : refused_by r ≡ field_refusal due (drop place book)
   pub meant : bodies_meant book r ≡ cond (eqb (field_refusal due (drop place book)) 0) (field_body (drop place book) ∷ []) []

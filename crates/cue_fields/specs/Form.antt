@@ -1,12 +1,13 @@
 -- Fields in the order of a list, as a cue has them: what reading them one after another gives on every byte string, and their bytes. A field that may be left out is one of the list all the same: where it
 -- is left out its body is the empty one, which it never has where it stands. `rest` is what is left of the book at the first.
-use Rattle.std.specs.Prelude.{◌≡◌, ℕ, ◌+◌, ◌<◌, Bool, true, false, cond, not, ◌&&◌, ◌||◌, List, [], ◌∷◌, ◌++◌, length, get_or, drop, eqb}
+use Rattle.std.specs.Prelude.{◌≡◌, ℕ, ◌+◌, ◌<◌, Bool, true, false, cond, not, ◌&&◌, ◌||◌, List, [], ◌∷◌, ◌++◌, length, get_or, drop, eqb, Result, Ok}
+use Rattle.matching.specs.declared.refusal.Refusal.{Refusal}
 use Rattle.matching.specs.Refusals.{first_met}
+use Rattle.matching.specs.Results.{refused_by}
 use Rattle.cue_fields.specs.declared.Due.{Due}
 use Rattle.cue_fields.specs.declared.Due.TheVariants.{Phrase, Ordinal, Title, Dates, House}
-use Rattle.cue_fields.specs.declared.FieldAnswer.{FieldAnswer}
-use Rattle.cue_fields.specs.declared.FieldAnswer.TheVariants.{Body}
-use Rattle.cue_fields.specs.Field.{tag_of, allowed, number_in, value_tests, field_bytes, field_body, field_size, field_refusal, field_number, bodies_meant, field_at}
+use Rattle.cue_fields.specs.declared.Span.{Span}
+use Rattle.cue_fields.specs.Field.{tag_of, allowed, number_in, value_tests, field_bytes, field_body, field_size, field_refusal, span, bodies_meant, field_at}
 
 -- ---- a field that is due
 
@@ -40,14 +41,14 @@ abbrev pub after_due : Due → List ℕ → List ℕ
 after_due due rest = drop (due_size due rest) rest
 
 -- the answer at a place: one left out has the empty body there
-unfoldable pub due_at : List ℕ → ℕ → Due → FieldAnswer
+unfoldable pub due_at : List ℕ → ℕ → Due → Result Span Refusal
 unfolding field_at
-due_at book place due = cond (stands due (drop place book)) (field_at book place due) (Body place place)
+due_at book place due = cond (stands due (drop place book)) (field_at book place due) (Ok (span place place))
 
 -- what is read there, its number in document 01, and the body that it means
-pub record DueRead (book : List ℕ) (place : ℕ) (due : Due) (r : FieldAnswer) : Type 0 where
+pub record DueRead (book : List ℕ) (place : ℕ) (due : Due) (r : Result Span Refusal) : Type 0 where
   pub answer : r ≡ due_at book place due
-  pub number : field_number r ≡ due_refusal due (drop place book)
+  pub number : refused_by r ≡ due_refusal due (drop place book)
   pub meant : bodies_meant book r ≡ cond (eqb (due_refusal due (drop place book)) 0) (due_body due (drop place book) ∷ []) []
 
 -- ---- reading them

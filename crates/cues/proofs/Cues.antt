@@ -5,24 +5,25 @@ use native.Mathlib.Omega.{arith}
 use mathlib.Core.List.{List, [], ◌∷◌}
 use lib.ListN.{length, drop, length-drop}
 use lib.Dec.{leb}
-use denote.Enum.Declared as declared
 use borrow.Author.Tests.{eq-eqb, ne_eqb, leb-true}
+use Rattle.std.specs.Prelude.{Ok, Err}
+use Rattle.matching.specs.declared.refusal.Refusal.{Refusal}
+use Rattle.matching.specs.Results.{number_of}
 use Rattle.matching.proofs.CaseAnalysis.{both}
+use Rattle.matching.proofs.Find.{number-some}
 use Rattle.cue_fields.specs.declared.Due.TheVariants.{Phrase, Ordinal, Title}
-use Rattle.cue_fields.specs.Field.{number_in, field_length, field_size, field_body, after_field, part}
-use Rattle.cue_fields.specs.Form.{due_size, due_body, form_size, after_form, form_bodies}
-use Rattle.cue_fields.proofs.Fields.{Fielded, after-field, told-apart, first_of}
+use Rattle.cue_fields.specs.declared.Span.{Span}
+use Rattle.cue_fields.specs.Field.{number_in, field_length, field_size, field_body, after_field, refusal_named, span, bytes_in}
+use Rattle.cue_fields.specs.Form.{due_size, due_body, form_refusal, form_size, after_form, form_bodies}
+use Rattle.cue_fields.proofs.Fields.{Fielded, after-field, named_back}
 use Rattle.cue_fields.proofs.Form.{due-fielded, form-none, form-fine, form-gap, form-inside, after_next}
 use Rattle.cue_fields.proofs.Steps.{DueAt, step-refusal, step-size, step-bodies}
-use Rattle.cues.specs.declared.CueAnswer.{CueAnswer}
-use Rattle.cues.specs.declared.CueAnswer.TheVariants as answer
-use Rattle.cues.specs.contracts.CueAnswer as answers
-use Rattle.cues.specs.declared.Days.{Days}
-use Rattle.cues.specs.declared.Mark.{Mark}
+use Rattle.cues.specs.declared.Cue as found
+use Rattle.cues.specs.declared.Rest.{Rest}
 use Rattle.cues.specs.Cue.{Cue, cue_with, cue_form, head_form, cue_from}
 use Rattle.cues.specs.Reading.{cue_refusal, cue_size, cue_of}
 use Rattle.cues.specs.Rest.{tail_form, RestIs}
-use Rattle.cues.specs.Places.{cue_number, cue_end, cues_meant, start_of_title, title_length, end_of_title, cue_at, CueRead}
+use Rattle.cues.specs.Places.{cue_meant, start_of_title, title_length, end_of_title, cue_placed, cue_at, CueRead}
 
 -- ---- a cue, from what is left of the book
 
@@ -70,141 +71,111 @@ module _ (rest : List ℕ) where
 
 -- ---- where a cue stands in the book
 
-module _ (book : List ℕ) (place : ℕ) where
-  pub cue-refused : {number : ℕ} → cue_refusal (drop place book) ≡ number → (number ≡ 0 → ⊥) → CueRead book place (answer.Refused number)
+module _ {book : List ℕ} {place : ℕ} where
+  pub cue-refused : {r : Refusal} → number_of r ≡ cue_refusal (drop place book) → CueRead book place (Err r)
   unfolding cue_at
-  cue-refused e some =
-      let off = ne_eqb (cue_refusal (drop place book)) 0 (λ z. some (sym e ∙ z)) in
-      record { answer = rw off (ap answer.Refused (sym e)); number = sym e; meant = rw off }
+  cue-refused {r} e =
+      let off = ne_eqb (cue_refusal (drop place book)) 0 (λ z. omega (arith, e, z, number-some r)) in
+      record { answer = rw off (ap Err (sym (named_back r) ∙ ap refusal_named e)); number = e; meant = rw off }
 
--- its fields, read one after another, and those behind its title together
-module _
-    {book : List ℕ}
-    {place phrase phrase-end body ordinal-end title title-end end : ℕ}
-    {days : Days}
-    {mark : Mark}
-    (p : DueAt book place Phrase phrase phrase-end)
-    (o : DueAt book phrase-end Ordinal body ordinal-end)
-    (t : DueAt book ordinal-end Title title title-end)
-    (w : RestIs book title-end days mark end)
-  where
-    fields-none : cue_refusal (drop place book) ≡ 0
-    unfolding cue_refusal
-    fields-none = step-refusal p (Ordinal ∷ Title ∷ tail_form) ∙ step-refusal o (Title ∷ tail_form) ∙ step-refusal t tail_form ∙ w.none
+-- its fields, read one after another: the cue's refusal is that of the fields after those read
+module _ {book : List ℕ} {place : ℕ} {phrase : Span} (p : DueAt book place Phrase phrase) where
+  pub after-phrase : cue_refusal (drop place book) ≡ form_refusal (Ordinal ∷ Title ∷ tail_form) (drop phrase.end book)
+  unfolding cue_refusal
+  after-phrase = step-refusal p (Ordinal ∷ Title ∷ tail_form)
 
-    fields_value : cue_with (part book phrase phrase-end) (number_in (part book body ordinal-end)) (part book title title-end) days mark ≡ cue_of (drop place book)
-    unfolding cue_of
-    fields_value =
-        let third = step-bodies t tail_form in
-        let second = step-bodies o (Title ∷ tail_form) ∙ ap (λ (l : List (List ℕ)). part book body ordinal-end ∷ l) third in
-        ap₂ (cue_with (part book phrase phrase-end) (number_in (part book body ordinal-end)) (part book title title-end)) w.days-are w.mark-is
-        ∙ ap cue_from (sym (step-bodies p (Ordinal ∷ Title ∷ tail_form) ∙ ap (λ (l : List (List ℕ)). part book phrase phrase-end ∷ l) second))
+  module _ {number : Span} (o : DueAt book phrase.end Ordinal number) where
+    pub after-ordinal : cue_refusal (drop place book) ≡ form_refusal (Title ∷ tail_form) (drop number.end book)
+    after-ordinal = after-phrase ∙ step-refusal o (Title ∷ tail_form)
 
-    -- where its phrase ends, where its title stands, and where it ends
-    phrase-ends : phrase-end ≡ place + field_size (drop place book)
-    unfolding due_size
-    phrase-ends = p.end_is
+    module _ {title : Span} (t : DueAt book number.end Title title) where
+      pub after-title : cue_refusal (drop place book) ≡ form_refusal tail_form (drop title.end book)
+      after-title = after-ordinal ∙ step-refusal t tail_form
 
-    title-starts : title ≡ place + start_of_title (drop place book)
-    title-starts = omega (arith, step-size p (Ordinal ∷ []), step-size o [], (form-none (drop ordinal-end book)).1, t.start_is refl)
+      -- and those behind the title together
+      module _ {rest : Rest} (w : RestIs book title.end rest) where
+        fields-none : cue_refusal (drop place book) ≡ 0
+        fields-none = after-title ∙ w.none
 
-    title-stops : title-end ≡ place + end_of_title (drop place book)
-    unfolding due_size
-    title-stops =
-        let at : ordinal-end ≡ place + form_size head_form (drop place book) = omega (arith, step-size p (Ordinal ∷ []), step-size o [], (form-none (drop ordinal-end book)).1) in
-        let head : drop ordinal-end book ≡ after_form head_form (drop place book) = ap (λ (k : ℕ). drop k book) at ∙ after-field book place (form_size head_form (drop place book)) in
-        omega (arith, title-starts, t.start_is refl, t.end_is, ap field_length head)
+        fields_value : cue_with (bytes_in book phrase) (number_in (bytes_in book number)) (bytes_in book title) rest.days rest.mark ≡ cue_of (drop place book)
+        unfolding cue_of
+        fields_value =
+            let third = step-bodies t tail_form in
+            let second = step-bodies o (Title ∷ tail_form) ∙ ap (λ (l : List (List ℕ)). bytes_in book number ∷ l) third in
+            ap₂ (cue_with (bytes_in book phrase) (number_in (bytes_in book number)) (bytes_in book title)) w.days-are w.mark-is
+            ∙ ap cue_from (sym (step-bodies p (Ordinal ∷ Title ∷ tail_form) ∙ ap (λ (l : List (List ℕ)). bytes_in book phrase ∷ l) second))
 
-    cue-ends : end ≡ place + cue_size (drop place book)
-    cue-ends = omega (arith, step-size p (Ordinal ∷ Title ∷ tail_form), step-size o (Title ∷ tail_form), step-size t tail_form, w.end_is)
+        -- where its phrase stands, where its title stands, and where it ends
+        phrase-is : phrase ≡ span (place + 3) (place + field_size (drop place book))
+        unfolding due_size
+        phrase-is = ap₂ span (p.start_is refl) p.end_is
 
-    pub cue-read : {ordinal : ℕ} → ordinal ≡ number_in (part book body ordinal-end) → CueRead book place (answer.Cue phrase phrase-end ordinal title title-end days mark end)
-    unfolding cue_at
-    cue-read {ordinal} e =
-        let rest : List ℕ = drop place book in
-        let on = eq-eqb (cue_refusal rest) 0 fields-none in
-        let value : cue_with (part book phrase phrase-end) ordinal (part book title title-end) days mark ≡ cue_of rest =
-        ap (λ (n : ℕ). cue_with (part book phrase phrase-end) n (part book title title-end) days mark) e ∙ fields_value in
-        record {
-          answer = rw on (rw (p.start_is refl, phrase-ends, ap (λ (c : Cue). c.ordinal) value, title-starts, title-stops, ap (λ (c : Cue). c.days) value, ap (λ (c : Cue). c.mark) value, cue-ends) refl);
-          number = sym fields-none;
-          meant = rw on (ap (λ (c : Cue). c ∷ []) value);
-        }
+        title-is : title ≡ span (place + start_of_title (drop place book)) (place + end_of_title (drop place book))
+        unfolding due_size
+        title-is =
+            let at : number.end ≡ place + form_size head_form (drop place book) = omega (arith, step-size p (Ordinal ∷ []), step-size o [], (form-none (drop number.end book)).1) in
+            let head : drop number.end book ≡ after_form head_form (drop place book) = ap (λ (k : ℕ). drop k book) at ∙ after-field book place (form_size head_form (drop place book)) in
+            let starts : title.start ≡ place + start_of_title (drop place book) = omega (arith, at, t.start_is refl) in
+            let ends : title.end ≡ place + end_of_title (drop place book) = omega (arith, at, t.end_is, ap field_length head) in
+            ap₂ span starts ends
+
+        cue-ends : rest.end ≡ place + cue_size (drop place book)
+        cue-ends = omega (arith, step-size p (Ordinal ∷ Title ∷ tail_form), step-size o (Title ∷ tail_form), step-size t tail_form, w.end_is)
+
+        pub cue-read : {ordinal : ℕ} → ordinal ≡ number_in (bytes_in book number)
+            → CueRead book place (Ok (record { phrase = phrase; ordinal = ordinal; title = title; days = rest.days; mark = rest.mark; end = rest.end }))
+        unfolding cue_at
+        cue-read {ordinal} e =
+            let left : List ℕ = drop place book in
+            let on = eq-eqb (cue_refusal left) 0 fields-none in
+            let value : cue_with (bytes_in book phrase) ordinal (bytes_in book title) rest.days rest.mark ≡ cue_of left =
+            ap (λ (n : ℕ). cue_with (bytes_in book phrase) n (bytes_in book title) rest.days rest.mark) e ∙ fields_value in
+            record {
+              answer = rw on (rw (phrase-is, ap (λ (c : Cue). c.ordinal) value, title-is, ap (λ (c : Cue). c.days) value, ap (λ (c : Cue). c.mark) value, cue-ends) refl);
+              number = sym fields-none;
+              meant = rw on (ap (λ (c : Cue). c ∷ []) value);
+            }
 
 -- ---- a cue's answer taken apart
 
 -- the cue was read: it stands there
-pub record CueAt (book : List ℕ) (place phrase phrase-end ordinal title title-end : ℕ) (days : Days) (mark : Mark) (end : ℕ) : Type 0 where
+pub record CueAt (book : List ℕ) (place : ℕ) (c : found.Cue) : Type 0 where
   pub none : cue_refusal (drop place book) ≡ 0
-  pub phrase-is : phrase ≡ place + 3
-  pub phrase-end-is : phrase-end ≡ place + field_size (drop place book)
-  pub title-is : title ≡ place + start_of_title (drop place book)
-  pub title-end-is : title-end ≡ place + end_of_title (drop place book)
-  pub end_is : end ≡ place + cue_size (drop place book)
-  pub meant : cue_with (part book phrase phrase-end) ordinal (part book title title-end) days mark ≡ cue_of (drop place book)
+  pub is : c ≡ cue_placed place (drop place book)
+  pub meant : cue_meant book c ≡ cue_of (drop place book)
 
-phrase_of : CueAnswer → ℕ
-phrase_of (answer.Cue phrase phrase-end ordinal title title-end days mark end) = phrase
-phrase_of (answer.Refused number) = 0
-
-end_of_phrase : CueAnswer → ℕ
-end_of_phrase (answer.Cue phrase phrase-end ordinal title title-end days mark end) = phrase-end
-end_of_phrase (answer.Refused number) = 0
-
-title_of : CueAnswer → ℕ
-title_of (answer.Cue phrase phrase-end ordinal title title-end days mark end) = title
-title_of (answer.Refused number) = 0
-
-title_stops : CueAnswer → ℕ
-title_stops (answer.Cue phrase phrase-end ordinal title title-end days mark end) = title-end
-title_stops (answer.Refused number) = 0
-
-module _ {book : List ℕ} {place : ℕ} {r : CueAnswer} (read : CueRead book place r) where
-  pub cue-at : {phrase phrase-end ordinal title title-end end : ℕ} {days : Days} {mark : Mark} → r ≡ answer.Cue phrase phrase-end ordinal title title-end days mark end
-      → CueAt book place phrase phrase-end ordinal title title-end days mark end
-  unfolding cue_at phrase_of end_of_phrase title_of title_stops first_of
-  cue-at e =
-      let none : cue_refusal (drop place book) ≡ 0 = sym read.number ∙ ap cue_number e in
-      let on = eq-eqb (cue_refusal (drop place book)) 0 none in
-      record {
-        none = none;
-        phrase-is = ap phrase_of (sym e ∙ read.answer) ∙ rw on;
-        phrase-end-is = ap end_of_phrase (sym e ∙ read.answer) ∙ rw on;
-        title-is = ap title_of (sym e ∙ read.answer) ∙ rw on;
-        title-end-is = ap title_stops (sym e ∙ read.answer) ∙ rw on;
-        end_is = ap cue_end (sym e ∙ read.answer) ∙ rw on;
-        meant = ap (first_of (cue_of (drop place book))) (ap (cues_meant book) (sym e) ∙ read.meant) ∙ rw on;
-      }
-
-  pub cue-refused-some : declared.tag_of answers.the_type r ≡ 1 → cue_number r ≡ 0 → ⊥
-  unfolding cue_at
-  cue-refused-some t z =
-      let on = eq-eqb (cue_refusal (drop place book)) 0 (sym read.number ∙ z) in
-      let rest : List ℕ = drop place book in
-      let is : r ≡ answer.Cue (place + 3) (place + field_size rest) (cue_of rest).ordinal (place + start_of_title rest) (place + end_of_title rest) (cue_of rest).days (cue_of rest).mark (place + cue_size rest) = read.answer ∙ rw on in
-      told-apart (declared.tag_of answers.the_type) is refl t
+pub cue-at : {book : List ℕ} {place : ℕ} {c : found.Cue} → CueRead book place (Ok c) → CueAt book place c
+unfolding cue_at
+cue-at {book} {place} {c} read =
+    let none : cue_refusal (drop place book) ≡ 0 = sym read.number in
+    let on = eq-eqb (cue_refusal (drop place book)) 0 none in
+    let same : Ok c ≡ Ok (cue_placed place (drop place book)) = read.answer ∙ rw on in
+    let meant : cue_meant book c ∷ [] ≡ cue_of (drop place book) ∷ [] = read.meant ∙ rw on in
+    record { none = none; is = cc; meant = cc }
 
 -- the phrase lies in the book, and its length is allowed
-pub record PhraseInside (book : List ℕ) (phrase phrase-end : ℕ) : Type 0 where
-  pub ordered : phrase ≤ phrase-end
-  pub inside : phrase-end ≤ length book
-  pub some : 1 ≤ phrase-end - phrase
-  pub short : phrase-end - phrase ≤ 1024
+pub record PhraseInside (book : List ℕ) (phrase : Span) : Type 0 where
+  pub ordered : phrase.start ≤ phrase.end
+  pub inside : phrase.end ≤ length book
+  pub some : 1 ≤ phrase.end - phrase.start
+  pub short : phrase.end - phrase.start ≤ 1024
 
-pub phrase-inside : {book : List ℕ} {place phrase phrase-end ordinal title title-end end : ℕ} {days : Days} {mark : Mark} → CueAt book place phrase phrase-end ordinal title title-end days mark end → PhraseInside book phrase phrase-end
-phrase-inside {book} {place} c =
-    let f = cue-phrase (drop place book) c.none in
+pub phrase-inside : {book : List ℕ} {place : ℕ} {c : found.Cue} → CueAt book place c → PhraseInside book c.phrase
+phrase-inside {book} {place} {c} a =
+    let f = cue-phrase (drop place book) a.none in
     let lengths = both (leb 1 (field_length (drop place book))) (leb (field_length (drop place book)) 1024) f.lengths in
     let some = leb-true 1 (field_length (drop place book)) lengths.0 in
     let short = leb-true (field_length (drop place book)) 1024 lengths.1 in
+    let starts : c.phrase.start ≡ place + 3 = ap (λ (d : found.Cue). d.phrase.start) a.is in
+    let ends : c.phrase.end ≡ place + field_size (drop place book) = ap (λ (d : found.Cue). d.phrase.end) a.is in
     record {
-      ordered = omega (arith, c.phrase-is, c.phrase-end-is);
-      inside = omega (arith, c.phrase-end-is, f.whole, f.header, length-drop place book);
-      some = omega (arith, c.phrase-is, c.phrase-end-is);
-      short = omega (arith, c.phrase-is, c.phrase-end-is);
+      ordered = omega arith;
+      inside = omega (arith, f.whole, f.header, length-drop place book);
+      some = omega arith;
+      short = omega arith;
     }
 
 -- the title's length, and that the cue ends further on
-pub title-ends : {book : List ℕ} {place phrase phrase-end ordinal title title-end end : ℕ} {days : Days} {mark : Mark} → CueAt book place phrase phrase-end ordinal title title-end days mark end
-    → (title-end ≡ title + title_length (drop place book)) × (place < end)
-title-ends {book} {place} c = (omega (arith, c.title-is, c.title-end-is), omega (arith, c.end_is, title-last (drop place book)))
+pub title-ends : {book : List ℕ} {place : ℕ} {c : found.Cue} → CueAt book place c → (c.title.end ≡ c.title.start + title_length (drop place book)) × (place < c.end)
+title-ends {book} {place} a =
+    (rw a.is (omega arith), omega (arith, ap (λ (d : found.Cue). d.end) a.is, title-last (drop place book)))

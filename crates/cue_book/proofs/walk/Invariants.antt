@@ -4,7 +4,7 @@ use Rattle.cue_book.proofs.Books.{Counted, Noted}
 use Rattle.cue_book.proofs.walk.Given as goal
 
 abbrev pub invariant-loop-place : goal.invariant-loop-place
-invariant-loop-place l = Counted l.book l.choice l.index l.place l.chosen × Noted l.book l.wanted l.index (record { start = l.start; len = l.len })
+invariant-loop-place l = record { counted : Counted l.book l.choice l.index l.place l.chosen; noted : Noted l.book l.wanted l.index l.title }
 
 abbrev pub decreases-loop-place : goal.decreases-loop-place
 decreases-loop-place l = length l.book - l.place
