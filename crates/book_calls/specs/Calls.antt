@@ -1,13 +1,13 @@
 -- What the calls on a book or a cue give a role (document 02, (xiv)): a role that may not do an act gets 19 and zeros, a field read 19 alone and a title the empty part at the book's front, and all is as
 -- before. For a role that may, it is what the act gives.
-use Rattle.std.specs.Prelude.{◌≡◌, ℕ, ◌+◌, Bool, true, false, cond, List, [], length, take, drop}
+use Rattle.std.specs.Prelude.{◌≡◌, ℕ, ◌+◌, Bool, true, false, cond, List, [], length, take, drop, Result, Err}
 use Rattle.std.specs.Borrow.{Bor}
 use Rattle.matching.specs.declared.Answer.{Answer}
+use Rattle.matching.specs.declared.refusal.Refusal.{Refusal}
+use Rattle.matching.specs.declared.refusal.Refusal.TheVariants.{NotAllowed}
 use Rattle.roles.specs.Roles.{may_all, not_allowed}
-use Rattle.cue_fields.specs.declared.FieldAnswer.{FieldAnswer}
-use Rattle.cue_fields.specs.declared.FieldAnswer.TheVariants as field
-use Rattle.cues.specs.declared.CueAnswer.{CueAnswer}
-use Rattle.cues.specs.declared.CueAnswer.TheVariants as cue
+use Rattle.cue_fields.specs.declared.Span.{Span}
+use Rattle.cues.specs.declared.Cue.{Cue}
 use Rattle.cue_book.specs.declared.Part.{Part}
 use Rattle.cue_book.specs.Reading.{read_book, cues_in, title_at}
 use Rattle.cue_book.specs.Places.{book_answer, front, title_part}
@@ -18,12 +18,12 @@ use Rattle.plain.specs.Plain.{field_passed, cue_passed}
 -- ---- reading
 
 -- a field read
-abbrev pub field_for : ℕ → FieldAnswer → PlainField
-field_for role answer = cond (may_all role) (field_passed answer) (field_passed (field.Refused not_allowed))
+abbrev pub field_for : ℕ → Result Span Refusal → PlainField
+field_for role answer = cond (may_all role) (field_passed answer) (field_passed (Err NotAllowed))
 
 -- a cue read
-abbrev pub cue_for : ℕ → CueAnswer → PlainCue
-cue_for role answer = cond (may_all role) (cue_passed answer) (cue_passed (cue.Refused not_allowed))
+abbrev pub cue_for : ℕ → Result Cue Refusal → PlainCue
+cue_for role answer = cond (may_all role) (cue_passed answer) (cue_passed (Err NotAllowed))
 
 -- what is given back to a role that may not do an act: 19 and 0
 abbrev pub role_refused : Answer

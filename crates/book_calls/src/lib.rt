@@ -1,6 +1,6 @@
 // The calls on a cue book or a cue, each with the role of who calls (document 02, (xiv)): a role that may not do an act is refused with 19 and zeros, ahead of every other test, and all is as before. What a call
 // does for a role that may is the promise of the crate that does it.
-// It depends on `roles` for what each role may do, on `plain`, `cue_book` and `retitle` for the acts, on `cue_fields`, `cues` and `cue_writer` for what they promise, and on `matching` for the answer that a call gives.
+// It depends on `roles` for what each role may do, on `plain`, `cue_book` and `retitle` for the acts, on `cue_fields`, `cues` and `cue_writer` for what they promise, and on `matching` for the refusal and the answer that a call gives.
 #![tactic(auto)]
 
 ghost use Rattle.std.specs.Prelude.{◌≡◌};
@@ -13,7 +13,7 @@ ghost use Rattle.retitle.specs.Retitling.{Retitled};
 ghost use Rattle.book_calls.specs.Calls.{field_for, cue_for, book_for, TitlePlacedFor, TitleShownFor, Allowed};
 
 use cue_book::Part;
-use matching::Answer;
+use matching::{Answer, Refusal};
 use plain::{PlainCue, PlainField};
 
 // The field that a number names by its tag, read at a place of a book, for the operator.
@@ -21,12 +21,7 @@ pub fn read_field(role: u32, book: &[u8], place: usize, due: u32) -> PlainField
     ensures { result ≡ field_for role (field_due book.now place due) }
 {
     if !roles::may_all(role) {
-        return PlainField {
-            refusal: 19,
-            start: 0,
-            len: 0,
-            end: 0,
-        };
+        return PlainField::from(Err(Refusal::NotAllowed));
     }
     plain::read_field(book, place, due)
 }
@@ -36,20 +31,7 @@ pub fn read_cue(role: u32, book: &[u8], place: usize) -> PlainCue
     ensures { result ≡ cue_for role (cue_at book.now place) }
 {
     if !roles::may_all(role) {
-        return PlainCue {
-            refusal: 19,
-            ordinal: 0,
-            dated: 0,
-            first: 0,
-            last: 0,
-            marked: 0,
-            house: 0,
-            phrase_start: 0,
-            phrase_len: 0,
-            title_start: 0,
-            title_len: 0,
-            end: 0,
-        };
+        return PlainCue::from(Err(Refusal::NotAllowed));
     }
     plain::read_cue(book, place)
 }
@@ -59,12 +41,9 @@ pub fn read_book(role: u32, book: &[u8]) -> Answer
     ensures { result ≡ book_for role book.now }
 {
     if !roles::may_all(role) {
-        return Answer {
-            refusal: 19,
-            number: 0,
-        };
+        return Answer::from(Err(Refusal::NotAllowed));
     }
-    cue_book::read_book(book)
+    cue_book::read_book(book).into()
 }
 
 // Where the title of a cue stands in the book, for the operator; for another role the empty part at the book's front.
@@ -102,10 +81,7 @@ pub fn write_cue(
     ensures { Allowed (may_all role) (Written (cue_with phrase.now ordinal title.now (days_given dated first last) (mark_given house)) house buffer.old result buffer.new) buffer.old result buffer.new }
 {
     if !roles::may_all(role) {
-        return Answer {
-            refusal: 19,
-            number: 0,
-        };
+        return Answer::from(Err(Refusal::NotAllowed));
     }
     plain::write_cue(buffer, phrase, ordinal, title, dated, first, last, house)
 }
@@ -115,10 +91,7 @@ pub fn retitle(role: u32, book: &[u8], cue: u32, title: &[u8], buffer: &mut [u8]
     ensures { Allowed (may_retitle role) (Retitled book.now cue title.now buffer.old result buffer.new) buffer.old result buffer.new }
 {
     if !roles::may_retitle(role) {
-        return Answer {
-            refusal: 19,
-            number: 0,
-        };
+        return Answer::from(Err(Refusal::NotAllowed));
     }
-    retitle::retitle(book, cue, title, buffer)
+    retitle::retitle(book, cue, title, buffer).into()
 }

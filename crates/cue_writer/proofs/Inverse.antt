@@ -14,7 +14,9 @@ use Rattle.matching.proofs.CaseAnalysis.{by-test}
 use Rattle.pieces.specs.Pieces.{joined}
 use Rattle.cue_fields.specs.Form.{Bytes}
 use Rattle.cue_fields.proofs.Form.{bytes_drop}
-use Rattle.cues.specs.declared.CueAnswer.{CueAnswer}
+use Rattle.std.specs.Prelude.{Result}
+use Rattle.matching.specs.declared.refusal.Refusal.{Refusal}
+use Rattle.cues.specs.declared.Cue as found
 use Rattle.cues.specs.declared.Mark.{Mark}
 use Rattle.cues.specs.declared.Mark.TheVariants.{Unmarked, Open, HouseOnly}
 use Rattle.cues.specs.Cue.{Cue, cue_bytes, Valid}
@@ -77,7 +79,7 @@ written-place (b ∷ before) later v =
     ∙ sym (length-append (cue_bytes b) (book_bytes before))
 
 -- `read_cue` where a cue's bytes begin in such a book gives that cue, whole, and ends where they end
-pub written-cue : (before : List Cue) (c : Cue) (later : List Cue) → AllValid (before ++ c ∷ later) → length (before ++ c ∷ later) ≤ 999 → {r : CueAnswer}
+pub written-cue : (before : List Cue) (c : Cue) (later : List Cue) → AllValid (before ++ c ∷ later) → length (before ++ c ∷ later) ≤ 999 → {r : Result found.Cue Refusal}
     → CueRead (book_bytes (before ++ c ∷ later)) (length (book_bytes before)) r
     → (cues_meant (book_bytes (before ++ c ∷ later)) r ≡ c ∷ []) × (cue_end r ≡ length (book_bytes (before ++ c ∷ [])))
 written-cue before c later v h {r} read =

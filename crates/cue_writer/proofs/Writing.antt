@@ -1,17 +1,22 @@
 -- Writing a cue: what is known where it is not refused, and that the pieces laid out are its bytes. Assumes nothing.
-use mathlib.Core.Path.{◌≡◌, refl, ap, ap₂, ◌∙◌}
-use Prim.Native.Nat.{ℕ, ◌+◌, ◌≤◌}
+use mathlib.Core.Path.{◌≡◌, refl, sym, ap, ap₂, ◌∙◌}
+use Prim.Native.Nat.{ℕ, ◌+◌, ◌≤◌, ◌/◌, ◌%◌}
 use native.Mathlib.Omega.{arith}
 use mathlib.Core.Bool.{cond}
 use mathlib.Core.List.{List, [], ◌∷◌, ◌++◌, append-nil}
 use lib.ListN.{length, drop, length-append}
 use lib.Dec.{eqb}
 use borrow.Author.Tests.{eq-eqb, ne_eqb, ltb-false, eqb-true, eqb-false, not-false}
+use Rattle.std.specs.Int.{w16, to_be_bytes}
+use Rattle.matching.specs.declared.refusal.Refusal.{Refusal}
 use Rattle.matching.specs.Refusals.{first_met}
-use Rattle.matching.proofs.Refusals.{Passed, numbers_to, all-passed}
+use Rattle.matching.specs.Results.{number_of}
+use Rattle.matching.proofs.Find.{number-some}
+use Rattle.matching.proofs.Refusals.{Passed, numbers_to, all-passed, gapped, met-gap}
+use Rattle.calendar.specs.Calendar.{days_tests, days_refusal}
 use Rattle.matching.proofs.CaseAnalysis.{by-test}
 use Rattle.pieces.specs.Pieces.{joined, put_all, Laid}
-use Rattle.pieces.proofs.Laid.{laid-front, joined-append}
+use Rattle.pieces.proofs.Laid.{laid_none, laid_then, laid-front, joined-append}
 use Rattle.cue_fields.specs.declared.Due.{Due}
 use Rattle.cue_fields.specs.declared.Due.TheVariants.{Dates, House}
 use Rattle.cue_fields.specs.Field.{tag_of, two_bytes, field_bytes}
@@ -22,6 +27,10 @@ use Rattle.cues.specs.declared.Mark.{Mark}
 use Rattle.cues.specs.declared.Mark.TheVariants.{Unmarked, Open, HouseOnly}
 use Rattle.cues.specs.Cue.{Cue, cue_form, days_body, mark_body, cue_bodies, cue_bytes, dates_refusal, Valid}
 use Rattle.cue_writer.specs.Writing.{write_tests, write_refusal, Written, field_pieces, due_pieces}
+
+-- a number that fits into two bytes, as std's two bytes
+pub be-two : (n : ℕ) → n ≤ 65535 → to_be_bytes w16 n ≡ two_bytes n
+be-two n h = let high : n / 256 % 256 ≡ n / 256 = omega arith in ap (λ (k : ℕ). k ∷ n % 256 ∷ []) high
 
 -- a cue's length
 pub cue-length : (c : Cue) → length (cue_bytes c) ≡ 11 + length c.phrase + length c.title + length (due_bytes Dates (days_body c.days)) + length (due_bytes House (mark_body c.mark))
@@ -56,6 +65,17 @@ pub days-first : (c : Cue) (house capacity : ℕ) → (dates_refusal c.days ≡ 
 unfolding write_refusal first_met
 days-first c house capacity some = rw (ne_eqb (dates_refusal c.days) 0 some) refl
 
+-- days are refused with 16 alone
+dates-only : (d : Days) → 1 ≤ dates_refusal d → dates_refusal d ≡ 16
+unfolding days_refusal gapped
+dates-only Always some = absurd (omega arith)
+dates-only (Within first last) some = met-gap 1 16 (days_tests first last) refl (omega arith) some
+
+-- so a refusal of the days is the cue's
+pub days-refused : (c : Cue) (house capacity : ℕ) (r : Refusal) → number_of r ≡ dates_refusal c.days → number_of r ≡ write_refusal c house capacity
+days-refused c house capacity r e =
+    e ∙ dates-only c.days (omega (arith, e, number-some r)) ∙ sym (days-first c house capacity (λ z. omega (arith, e, z, number-some r)))
+
 -- ---- a cue that is written is valid, and fits
 
 pub record Fitting (c : Cue) (capacity : ℕ) : Type 0 where
@@ -81,6 +101,10 @@ fitting c house capacity e =
           };
       fits = ltb-false capacity (length (cue_bytes c)) shown.1.1.0;
     }
+
+-- so its length is small
+pub fitting-length : {c : Cue} {capacity : ℕ} → Fitting c capacity → length (cue_bytes c) ≤ 1246
+fitting-length {c} f = omega (arith, cue-length c, f.valid.short, f.valid.shown, dates-most c.days, mark-most c.mark)
 
 -- ---- the pieces of fields in the order of a list, and of a cue
 
@@ -111,6 +135,16 @@ joined-cue : (c : Cue) → joined (cue_pieces c) ≡ cue_bytes c
 unfolding cue_bytes
 joined-cue c = joined-form cue_form (cue_bodies c)
 
+-- its fields laid out one after another
+pub laid-fields : (c : Cue) (buffer : List ℕ) {number b₁ b₂ b₃ b₄ b₅ : List ℕ} {a₁ a₂ a₃ a₄ a₅ : ℕ} → c.ordinal ≤ 65535 → number ≡ to_be_bytes w16 c.ordinal
+    → Laid b₁ a₁ (put_all buffer 0 (field_pieces 1 c.phrase)) → Laid b₂ a₂ (put_all b₁ a₁ (field_pieces 2 number)) → Laid b₃ a₃ (put_all b₂ a₂ (field_pieces 3 c.title))
+    → Laid b₄ a₄ (put_all b₃ a₃ (due_pieces Dates (days_body c.days))) → Laid b₅ a₅ (put_all b₄ a₄ (due_pieces House (mark_body c.mark)))
+    → Laid b₅ a₅ (put_all buffer 0 (cue_pieces c))
+unfolding form_pieces
+laid-fields c buffer small number p o t d m =
+    let two = number ∙ be-two c.ordinal small in
+    laid_then _ _ _ _ p (laid_then _ _ _ _ (rw two at o) (laid_then _ _ _ _ t (laid_then _ _ _ _ d (laid_then _ _ _ _ m (laid_none _ _)))))
+
 -- ---- what is given back and left
 
 -- the pieces laid out in a buffer that is long enough
@@ -121,11 +155,6 @@ laid-cue c buffer long l =
     (whole.0 ∙ ap length (joined-cue c), whole.1 ∙ ap (λ (x : List ℕ). x ++ drop (length x) buffer) (joined-cue c))
 
 module _ {c : Cue} {house : ℕ} {buffer : List ℕ} where
-  pub written-refused : {number : ℕ} → number ≡ write_refusal c house (length buffer) → (number ≡ 0 → ⊥) → Written c house buffer (record { refusal = number; number = 0 }) buffer
-  written-refused {number} e some =
-      let off = ne_eqb (write_refusal c house (length buffer)) 0 (λ z. some (e ∙ z)) in
-      record { answer = rw off (ap (λ (n : ℕ). record { refusal = n; number = 0 }) e); left = rw off }
-
   pub written-whole : {at : ℕ} {buffer' : List ℕ} → write_refusal c house (length buffer) ≡ 0 → Laid buffer' at (put_all buffer 0 (cue_pieces c)) → Written c house buffer (record { refusal = 0; number = at }) buffer'
   written-whole e l =
       let on = eq-eqb (write_refusal c house (length buffer)) 0 e in

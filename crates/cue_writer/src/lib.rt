@@ -1,9 +1,10 @@
 // This crate writes a cue, with its dates where it has any and its mark where it is for the house only (document 01, "Cue book, folding, lines"; document 02, (viii) and (xiv)).
-// It depends on `cues` and `cue_book` for the format, on `cue_fields` for a field's bytes, on `calendar` for the days that there are, on `pieces` for laying the fields out, and on `matching` for its tables of refusals and the answer that a call gives.
+// It depends on `cues` and `cue_book` for the format, on `cue_fields` for a field's bytes, on `calendar` for the days that there are, on `pieces` for laying the fields out, and on `matching` for the refusals and its tables of them.
 // Demand 2 is carried by proofs/Inverse.antt: what is written reads back (`written-reads`), and what is accepted was so written (`accepted-written`).
 #![tactic(auto)]
 
 ghost use Rattle.std.specs.Prelude.{◌≡◌, ◌≤◌, length};
+ghost use Rattle.matching.specs.Results.{refused_by, answer};
 ghost use Rattle.pieces.specs.Pieces.{Laid, put_all};
 ghost use Rattle.cue_fields.specs.declared.Due.TheVariants.{Dates, House};
 ghost use Rattle.cue_fields.specs.Form.{due_bytes};
@@ -11,14 +12,14 @@ ghost use Rattle.cues.specs.Cue.{cue_with, days_body, mark_body, dates_refusal};
 ghost use Rattle.cue_writer.specs.Writing.{mark_given, write_refusal, Written, field_pieces, due_pieces};
 
 use cues::Days;
-use matching::Answer;
+use matching::Refusal;
 
-// The refusal of a cue's days, 0 for none.
-fn dates_refused(days: Days) -> u32
-    ensures { result ≡ dates_refusal days }
+// The test of a cue's days.
+fn dates_refused(days: Days) -> Result<(), Refusal>
+    ensures { refused_by result ≡ dates_refusal days }
 {
     match days {
-        Days::Always => 0,
+        Days::Always => Ok(()),
         Days::Within { first, last } => calendar::days_refused(first, last),
     }
 }
@@ -29,67 +30,62 @@ fn dates_len(days: Days) -> usize
 {
     match days {
         Days::Always => 0,
-        Days::Within { first: _, last: _ } => 7,
+        Days::Within { .. } => 7,
     }
 }
 
 // The length of the house mark: an open cue has none.
+#[tactic(auto, unfolding(crate::specs::Writing::mark_given))]
 fn mark_len(house: u32) -> usize
     ensures { result ≡ length (due_bytes House (mark_body (mark_given house))) }
 {
-    if house == 0 {
-        return 0;
-    }
-    4
+    if house == 0 { 0 } else { 4 }
 }
 
-// The refusal of a cue to be written into a buffer of so many bytes, 0 for none.
+// The tests of a cue to be written into a buffer of so many bytes.
 #[tactic(auto, unfolding(crate::specs::Writing::write_refusal, matching::specs::Refusals::first_met))]
-fn write_refusal(
+fn write_refused(
     phrase: &[u8],
     ordinal: u32,
     title: &[u8],
     days: Days,
     house: u32,
     capacity: usize,
-) -> u32
-    ensures { result ≡ write_refusal (cue_with phrase.now ordinal title.now days (mark_given house)) house capacity }
+) -> Result<(), Refusal>
+    ensures { refused_by result ≡ write_refusal (cue_with phrase.now ordinal title.now days (mark_given house)) house capacity }
 {
-    if dates_refused(days) != 0 {
-        return 16;
-    }
-    if phrase.len() == 0 {
-        return 2;
+    dates_refused(days)?;
+    if phrase.is_empty() {
+        return Err(Refusal::NoPhrase);
     }
     if 1024 < phrase.len() {
-        return 3;
+        return Err(Refusal::LongPhrase);
     }
     if ordinal == 0 {
-        return 9;
+        return Err(Refusal::BadField);
     }
     if 65535 < ordinal {
-        return 9;
+        return Err(Refusal::BadField);
     }
     if 200 < title.len() {
-        return 9;
+        return Err(Refusal::BadField);
     }
     if 1 < house {
-        return 9;
+        return Err(Refusal::BadField);
     }
     if capacity < 11 + phrase.len() + title.len() + dates_len(days) + mark_len(house) {
-        return 13;
+        return Err(Refusal::LongCue);
     }
-    0
+    Ok(())
 }
 
-// Lays a field out in the buffer from `at` on: where the next one goes.
+// Lays a field out in the buffer from `at` on: where the next one goes. The buffer and the place pass by themselves, as `pieces::put_bytes` takes them: a struct that borrows the buffer would be built and taken apart for the three functions here.
 fn put_field(buffer: &mut [u8], at: usize, tag: u8, body: &[u8]) -> usize
     requires { length body.now ≤ 65535 }
     ensures { Laid buffer.new result (put_all buffer.old at (field_pieces tag body.now)) }
 {
-    let length = body.len();
-    let header = [tag, (length / 256) as u8, (length % 256) as u8];
-    let next = pieces::put_bytes(buffer, at, &header);
+    let [high, low] = (body.len() as u16).to_be_bytes();
+    let next = pieces::put_bytes(buffer, at, &[tag, high, low]);
     pieces::put_bytes(buffer, next, body)
 }
 
@@ -101,26 +97,24 @@ fn put_dates(buffer: &mut [u8], at: usize, days: Days) -> usize
     let Days::Within { first, last } = days else {
         return at;
     };
-    let first_high = (first / 256) as u8;
-    let first_low = (first % 256) as u8;
-    let last_high = (last / 256) as u8;
-    let last_low = (last % 256) as u8;
+    let [first_high, first_low] = (first as u16).to_be_bytes();
+    let [last_high, last_low] = (last as u16).to_be_bytes();
     let dates = [first_high, first_low, last_high, last_low];
     put_field(buffer, at, 4, &dates)
 }
 
 // Lays the house mark out in the buffer from `at` on, where the cue is for the house only: where the cue ends.
+#[tactic(auto, unfolding(crate::specs::Writing::mark_given))]
 fn put_mark(buffer: &mut [u8], at: usize, house: u32) -> usize
     ensures { Laid buffer.new result (put_all buffer.old at (due_pieces House (mark_body (mark_given house)))) }
 {
     if house == 0 {
         return at;
     }
-    let mark = [1];
-    put_field(buffer, at, 5, &mark)
+    put_field(buffer, at, 5, &[1])
 }
 
-// Writes a cue at the buffer's start, open with `house` 0 and for the house only with 1: 0 and its length, or the refusal and 0.
+// Writes a cue at the buffer's start, open with `house` 0 and for the house only with 1: its length, or the refusal.
 pub fn write_cue(
     buffer: &mut [u8],
     phrase: &[u8],
@@ -128,22 +122,15 @@ pub fn write_cue(
     title: &[u8],
     days: Days,
     house: u32,
-) -> Answer
-    ensures { Written (cue_with phrase.now ordinal title.now days (mark_given house)) house buffer.old result buffer.new }
+) -> Result<u32, Refusal>
+    ensures { Written (cue_with phrase.now ordinal title.now days (mark_given house)) house buffer.old (answer result) buffer.new }
 {
-    let refusal = write_refusal(phrase, ordinal, title, days, house, buffer.len());
-    if refusal != 0 {
-        return Answer { refusal, number: 0 };
-    }
-    let number = [(ordinal / 256) as u8, (ordinal % 256) as u8];
+    write_refused(phrase, ordinal, title, days, house, buffer.len())?;
+    let number = (ordinal as u16).to_be_bytes();
     let mut at = put_field(buffer, 0, 1, phrase);
     at = put_field(buffer, at, 2, &number);
     at = put_field(buffer, at, 3, title);
     at = put_dates(buffer, at, days);
     at = put_mark(buffer, at, house);
-    let length = at as u32;
-    Answer {
-        refusal: 0,
-        number: length,
-    }
+    Ok(at as u32)
 }

@@ -5,6 +5,7 @@
 ghost use Rattle.pieces.specs.Pieces.{Laid, put};
 
 // Puts a piece into the buffer from `at` on, if it fits there: where the next piece goes.
+#[tactic(auto, unfolding(crate::specs::Pieces::put))]
 pub fn put_bytes(buffer: &mut [u8], at: usize, piece: &[u8]) -> usize
     ensures { Laid buffer.new result (put buffer.old at piece.now) }
 {
@@ -14,10 +15,6 @@ pub fn put_bytes(buffer: &mut [u8], at: usize, piece: &[u8]) -> usize
     if buffer.len() - piece.len() < at {
         return at;
     }
-    let mut i = 0;
-    while i < piece.len() {
-        buffer[at + i] = piece[i];
-        i += 1;
-    }
-    at + i
+    buffer[at..at + piece.len()].copy_from_slice(piece);
+    at + piece.len()
 }

@@ -1,17 +1,17 @@
 // The cue book by plain numbers, for an interface that passes no enum: a field and a cue read at a place of a book, and a cue written.
-// It depends on `cue_fields` and `cues`, which read them, on `cue_writer`, which writes one, and on `matching` for the answer that a call gives and its case analysis.
+// It depends on `cue_fields` and `cues`, which read them, on `cue_writer`, which writes one, and on `matching` for the refusals and the answer that a call gives.
 // A refused answer is 0 in all but its refusal; specs/Plain.antt has what passes for each answer.
 #![tactic(auto)]
 
-ghost use Rattle.std.specs.Prelude.{◌≡◌};
+ghost use Rattle.std.specs.Prelude.{◌≡◌, Err};
 ghost use Rattle.cues.specs.Cue.{cue_with};
 ghost use Rattle.cues.specs.Places.{cue_at};
 ghost use Rattle.cue_writer.specs.Writing.{mark_given, Written};
-ghost use Rattle.plain.specs.Plain.{field_due, field_passed, days_passed, mark_passed, cue_passed, days_given};
+ghost use Rattle.plain.specs.Plain.{due_named, field_due, field_passed, days_passed, mark_passed, cue_passed, days_given};
 
-use cue_fields::{Due, FieldAnswer};
-use cues::{CueAnswer, Days, Mark};
-use matching::Answer;
+use cue_fields::{Due, Span};
+use cues::{Cue, Days, Mark};
+use matching::{Answer, Refusal};
 
 // A field read: the refusal, or 0 with its body's start and length and the place after it. A refused one is 0 in all else.
 #[repr(C)]
@@ -42,79 +42,12 @@ pub struct PlainCue {
     pub end: usize,
 }
 
-// The field that a number names by its tag, read at a place of a book. No byte is the tag of another number.
-fn read_due(book: &[u8], place: usize, due: u32) -> FieldAnswer
-    ensures { result ≡ field_due book.now place due }
-{
-    if due == 1 {
-        return cue_fields::read_field(book, place, Due::Phrase);
-    }
-    if due == 2 {
-        return cue_fields::read_field(book, place, Due::Ordinal);
-    }
-    if due == 3 {
-        return cue_fields::read_field(book, place, Due::Title);
-    }
-    if due == 4 {
-        return cue_fields::read_field(book, place, Due::Dates);
-    }
-    if due == 5 {
-        return cue_fields::read_field(book, place, Due::House);
-    }
-    if book.len() < place {
-        return FieldAnswer::Refused(7);
-    }
-    if book.len() - place < 3 {
-        return FieldAnswer::Refused(7);
-    }
-    FieldAnswer::Refused(8)
-}
-
-// The field that a number names, read at a place of a book.
-pub fn read_field(book: &[u8], place: usize, due: u32) -> PlainField
-    ensures { result ≡ field_passed (field_due book.now place due) }
-{
-    let answer = read_due(book, place, due);
-    match answer {
-        FieldAnswer::Body { start, end } => PlainField {
-            refusal: 0,
-            start,
-            len: end - start,
-            end,
-        },
-        FieldAnswer::Refused(refusal) => PlainField {
-            refusal,
-            start: 0,
-            len: 0,
-            end: 0,
-        },
-    }
-}
-
 // A cue's days as they pass: 1 with the first and the last where it has dates, and 0 in all where it plays always.
 #[derive(Clone, Copy)]
 struct PlainDays {
     dated: u32,
     first: u32,
     last: u32,
-}
-
-// A cue's days, as these numbers.
-fn passed_days(days: Days) -> PlainDays
-    ensures { result ≡ days_passed days }
-{
-    match days {
-        Days::Always => PlainDays {
-            dated: 0,
-            first: 0,
-            last: 0,
-        },
-        Days::Within { first, last } => PlainDays {
-            dated: 1,
-            first,
-            last,
-        },
-    }
 }
 
 // A cue's mark as it passes: whether it has one, and whether it is for the house only.
@@ -124,74 +57,153 @@ struct PlainMark {
     house: u32,
 }
 
-// A cue's mark, as these numbers.
-fn passed_mark(mark: Mark) -> PlainMark
-    ensures { result ≡ mark_passed mark }
-{
-    match mark {
-        Mark::Unmarked => PlainMark {
-            marked: 0,
-            house: 0,
-        },
-        Mark::Open => PlainMark {
-            marked: 1,
-            house: 0,
-        },
-        Mark::HouseOnly => PlainMark {
-            marked: 1,
-            house: 1,
-        },
+impl From<Result<Span, Refusal>> for PlainField {
+    ghost from_gives = { λ read r. r ≡ field_passed read };
+
+    fn from(read: Result<Span, Refusal>) -> PlainField {
+        match read {
+            Ok(body) => PlainField {
+                refusal: 0,
+                start: body.start,
+                len: body.end.saturating_sub(body.start),
+                end: body.end,
+            },
+            Err(refusal) => PlainField {
+                refusal: refusal.into(),
+                start: 0,
+                len: 0,
+                end: 0,
+            },
+        }
     }
+}
+
+impl From<Days> for PlainDays {
+    ghost from_gives = { λ days r. r ≡ days_passed days };
+
+    fn from(days: Days) -> PlainDays {
+        match days {
+            Days::Always => PlainDays {
+                dated: 0,
+                first: 0,
+                last: 0,
+            },
+            Days::Within { first, last } => PlainDays {
+                dated: 1,
+                first,
+                last,
+            },
+        }
+    }
+}
+
+impl From<Mark> for PlainMark {
+    ghost from_gives = { λ mark r. r ≡ mark_passed mark };
+
+    fn from(mark: Mark) -> PlainMark {
+        match mark {
+            Mark::Unmarked => PlainMark {
+                marked: 0,
+                house: 0,
+            },
+            Mark::Open => PlainMark {
+                marked: 1,
+                house: 0,
+            },
+            Mark::HouseOnly => PlainMark {
+                marked: 1,
+                house: 1,
+            },
+        }
+    }
+}
+
+// A refused cue, 0 in all but its refusal.
+fn refused_cue(refusal: Refusal) -> PlainCue
+    ensures { result ≡ cue_passed (Err refusal) }
+{
+    PlainCue {
+        refusal: refusal.into(),
+        ordinal: 0,
+        dated: 0,
+        first: 0,
+        last: 0,
+        marked: 0,
+        house: 0,
+        phrase_start: 0,
+        phrase_len: 0,
+        title_start: 0,
+        title_len: 0,
+        end: 0,
+    }
+}
+
+impl From<Result<Cue, Refusal>> for PlainCue {
+    ghost from_gives = { λ read r. r ≡ cue_passed read };
+
+    fn from(read: Result<Cue, Refusal>) -> PlainCue {
+        match read {
+            Ok(cue) => {
+                let days = PlainDays::from(cue.days);
+                let mark = PlainMark::from(cue.mark);
+                PlainCue {
+                    refusal: 0,
+                    ordinal: cue.ordinal,
+                    dated: days.dated,
+                    first: days.first,
+                    last: days.last,
+                    marked: mark.marked,
+                    house: mark.house,
+                    phrase_start: cue.phrase.start,
+                    phrase_len: cue.phrase.end.saturating_sub(cue.phrase.start),
+                    title_start: cue.title.start,
+                    title_len: cue.title.end.saturating_sub(cue.title.start),
+                    end: cue.end,
+                }
+            }
+            Err(refusal) => refused_cue(refusal),
+        }
+    }
+}
+
+// The field that a number names by its tag. It is a function here, and no `TryFrom` of `Due`, since a number that names none is refused by the book's bytes.
+fn due_named(number: u32) -> Option<Due>
+    ensures { result ≡ due_named number }
+{
+    match number {
+        1 => Some(Due::Phrase),
+        2 => Some(Due::Ordinal),
+        3 => Some(Due::Title),
+        4 => Some(Due::Dates),
+        5 => Some(Due::House),
+        _ => None,
+    }
+}
+
+// The field that a number names, read at a place of a book. No byte is the tag of another number.
+#[tactic(auto, unfolding(crate::specs::Plain::field_due))]
+fn read_due(book: &[u8], place: usize, due: u32) -> Result<Span, Refusal>
+    ensures { result ≡ field_due book.now place due }
+{
+    match due_named(due) {
+        Some(due) => cue_fields::read_field(book, place, due),
+        None if book.len().saturating_sub(place) < 3 => Err(Refusal::CutField),
+        None => Err(Refusal::WrongTag),
+    }
+}
+
+// The field that a number names, read at a place of a book, as it passes.
+pub fn read_field(book: &[u8], place: usize, due: u32) -> PlainField
+    ensures { result ≡ field_passed (field_due book.now place due) }
+{
+    read_due(book, place, due).into()
 }
 
 // A cue read at a place of a book.
 pub fn read_cue(book: &[u8], place: usize) -> PlainCue
     ensures { result ≡ cue_passed (cue_at book.now place) }
 {
-    let answer = cues::read_cue(book, place);
-    match answer {
-        CueAnswer::Cue {
-            phrase,
-            phrase_end,
-            ordinal,
-            title,
-            title_end,
-            days,
-            mark,
-            end,
-        } => {
-            let passed = passed_days(days);
-            let seen = passed_mark(mark);
-            PlainCue {
-                refusal: 0,
-                ordinal,
-                dated: passed.dated,
-                first: passed.first,
-                last: passed.last,
-                marked: seen.marked,
-                house: seen.house,
-                phrase_start: phrase,
-                phrase_len: phrase_end - phrase,
-                title_start: title,
-                title_len: title_end - title,
-                end,
-            }
-        }
-        CueAnswer::Refused(number) => PlainCue {
-            refusal: number,
-            ordinal: 0,
-            dated: 0,
-            first: 0,
-            last: 0,
-            marked: 0,
-            house: 0,
-            phrase_start: 0,
-            phrase_len: 0,
-            title_start: 0,
-            title_len: 0,
-            end: 0,
-        },
-    }
+    cues::read_cue(book, place).into()
 }
 
 // The days that come as plain numbers: always where `dated` is 0, and then the two others play no part; and else from the first to the last.
@@ -219,5 +231,5 @@ pub fn write_cue(
     ensures { Written (cue_with phrase.now ordinal title.now (days_given dated first last) (mark_given house)) house buffer.old result buffer.new }
 {
     let days = given_days(dated, first, last);
-    cue_writer::write_cue(buffer, phrase, ordinal, title, days, house)
+    cue_writer::write_cue(buffer, phrase, ordinal, title, days, house).into()
 }

@@ -8,11 +8,16 @@ use lib.ListN.{length, get_or, take, drop, length-append}
 use lib.Seq.{take_at, drop_at, split_at, length-take-le, take-append_seam}
 use lib.Dec.{eqb, ltb, leb}
 use borrow.Author.Tests.{eq-eqb, ne_eqb, eqb-true, eqb-false, lt-ltb, le-ltb, ltb-true, ltb-false, le-leb, lt-leb, leb-true, leb-false}
+use Rattle.std.specs.Int.{w16, to_be_bytes}
 use Rattle.matching.specs.declared.Answer.{Answer}
+use Rattle.matching.specs.declared.refusal.Refusal.{Refusal}
 use Rattle.matching.specs.Refusals.{first_met}
+use Rattle.matching.specs.Results as results
+use Rattle.matching.proofs.Find.{number-some}
+use Rattle.matching.proofs.Refusals.{Passed, numbers_to, all-passed}
 use Rattle.matching.proofs.CaseAnalysis.{by-test}
-use Rattle.pieces.specs.Pieces.{joined, put_all, Laid}
-use Rattle.pieces.proofs.Laid.{laid-front}
+use Rattle.pieces.specs.Pieces.{joined, put, put_all, Laid}
+use Rattle.pieces.proofs.Laid.{laid_one, laid_cons, laid-front}
 use Rattle.cue_fields.specs.declared.Due.TheVariants.{Title}
 use Rattle.cue_fields.specs.Field.{tag_of, two_bytes}
 use Rattle.cue_fields.specs.Form.{Bytes}
@@ -25,8 +30,9 @@ use Rattle.cue_book.specs.Reading.{cues, read_book, refusal_of, number_of, cues_
 use Rattle.cue_book.specs.Places.{title_in, front, title_part}
 use Rattle.cue_book.proofs.Books.{accepted-book, part-cues}
 use Rattle.cue_writer.proofs.Inverse.{written-reads, accepted-written}
+use Rattle.cue_writer.proofs.Writing.{be-two}
 use Rattle.cue_writer.proofs.Titles.{valid-at, valid-instead, up_to_length, behind_title, book-split, written-title}
-use Rattle.retitle.specs.Retitling.{retitled, retitle_tests, retitle_refusal, refused_number, Retitled, titled, NewBook, book_pieces, shorter, Put}
+use Rattle.retitle.specs.Retitling.{retitled, retitle_tests, retitle_refusal, refused_number, Retitled, titled, NewBook, call_tests, book_pieces, shorter, Put}
 
 -- ---- the refusals by their cases
 
@@ -164,6 +170,25 @@ module _ {book : List ℕ} {index : ℕ} {title buffer : List ℕ} where
             put.answer
             put.left
 
+  -- a refusal by the tests of the call, whose number of cues is the book's
+  pub tests-given : {count : ℕ} → refusal_of (read_book book) ≡ 0 → count ≡ number_of (read_book book) → (r : Refusal) → results.number_of r ≡ first_met (call_tests title count index)
+      → Retitled book index title buffer (record { refusal = results.number_of r; number = 0 }) buffer
+  unfolding first_met
+  tests-given {count} read many r e =
+      by-test (λ t. results.number_of r ≡ cond t 9 (cond (leb count index) 12 0) → Retitled book index title buffer (record { refusal = results.number_of r; number = 0 }) buffer) (ltb 200 (length title))
+      (λ t e. rw e (title-given read (ltb-true 200 (length title) t)))
+      (λ t e.
+      by-test (λ u. results.number_of r ≡ cond u 12 0 → Retitled book index title buffer (record { refusal = results.number_of r; number = 0 }) buffer) (leb count index)
+      (λ u e. rw e (cue-given read (ltb-false 200 (length title) t) (omega (arith, leb-true count index u, many))))
+      (λ u e. absurd (omega (arith, e, number-some r)))
+      e)
+      e
+
+-- where these tests are passed
+pub tests-passed : (title : List ℕ) (count index : ℕ) → 0 ≡ first_met (call_tests title count index) → (length title ≤ 200) × (index < count)
+unfolding Passed numbers_to
+tests-passed title count index e = let p = all-passed 12 (call_tests title count index) refl (sym e) in (ltb-false 200 (length title) p.0, leb-false count index p.1.0)
+
 -- ---- laying the pieces out
 
 module _ (before title behind : List ℕ) where
@@ -171,6 +196,13 @@ module _ (before title behind : List ℕ) where
   unfolding joined
   pieces-length =
       length-append before (two_bytes (length title) ++ (title ++ (behind ++ []))) ∙ omega (arith, length-append title (behind ++ []), length-append behind [])
+
+  -- the pieces laid out one after another, the title's length in std's two bytes
+  pub laid-pieces : (buffer : List ℕ) {two b₁ b₂ b₃ b₄ : List ℕ} {a₁ a₂ a₃ a₄ : ℕ} → length title ≤ 200 → two ≡ to_be_bytes w16 (length title) → Laid b₁ a₁ (put buffer 0 before) → Laid b₂ a₂ (put b₁ a₁ two)
+      → Laid b₃ a₃ (put b₂ a₂ title) → Laid b₄ a₄ (put b₃ a₃ behind) → Laid b₄ a₄ (put_all buffer 0 (book_pieces before title behind))
+  laid-pieces buffer short e first second third last =
+      let two = e ∙ be-two (length title) (omega arith) in
+      laid_cons _ _ _ _ first (laid_cons _ _ _ _ (rw two at second) (laid_cons _ _ _ _ third (laid_one _ _ _ last)))
 
   module _ {buffer : List ℕ} where
     -- the buffer is shorter, or the pieces fit into it

@@ -78,7 +78,11 @@ pub record NewBook (book : List ℕ) (index : ℕ) (title bytes : List ℕ) : Ty
   pub named : index ≡ length before
   pub anew : read_book bytes ≡ cues (before ++ titled title cue ∷ after)
 
--- ---- what is asked of laying the new book out; not part of any public promise
+-- ---- what is asked of the tests of the call and of laying the new book out; not part of any public promise
+
+-- the two rows of `retitle_tests` that ask for no book but for the number of its cues
+abbrev pub call_tests : List ℕ → ℕ → ℕ → List Test
+call_tests title count index = (ltb 200 (length title), 9) ∷ (leb count index, 12) ∷ []
 
 -- its pieces: the bytes before the title's length, the two bytes of the new length, the new title, and the bytes behind the old one
 abbrev pub book_pieces : List ℕ → List ℕ → List ℕ → List (List ℕ)

@@ -1,2 +1,0 @@
--- A role by the test that was made of it.
-pub mod Roles

@@ -1,2 +1,0 @@
--- The laws of what passes.
-pub mod Plain
