@@ -1,10 +1,9 @@
 -- What a walk over a text for a group of phrases promises (document 02, (vi)): the ordinals counted down and the places kept, by the numbers of the phrases that end at each letter. What this gives of the
 -- phrases' occurrences is shown in proofs/Locating.antt (`found`, `stands`, `missing`, `reads_all`).
-use Rattle.std.specs.Prelude.{◌≡◌, ℕ, ◌+◌, ◌≤◌, ◌<◌, true, false, List, [], length, get_or, replicate}
+use Rattle.std.specs.Prelude.{◌≡◌, ℕ, ◌+◌, ◌≤◌, ◌<◌, true, Option, Some, None, List, [], length, get_or, replicate}
 use Rattle.fold.specs.Fold.{is_page, fold_on}
 use Rattle.phrases.specs.Phrases.{phrases_in, letters, endings}
 use Rattle.phrases.specs.Counts.{counts}
-use Rattle.automaton.specs.declared.Walked.{Walked}
 
 -- the folded phrases of a group, by the places of their first letters in the book and by their lengths
 abbrev pub phrases_of : ℕ → List ℕ → List ℕ → List ℕ → List (List ℕ)
@@ -36,7 +35,7 @@ pub record Located (page : ℕ) (book starts lens text scratch left place : List
   pub counted : Counted (endings (phrases_of page book starts lens) [] text) lens left place reads left' place'
   pub emptied : scratch' ≡ replicate (length scratch) 0
 
--- it is walked for exactly where it is accepted; else nothing is read, and all is as before
-pub record Answered (page : ℕ) (book starts lens text scratch left place : List ℕ) (r : Walked) (scratch' left' place' : List ℕ) : Type 0 where
-  pub walked : r.done ≡ true → Located page book starts lens text scratch left place r.reads scratch' left' place'
-  pub refused : r.done ≡ false → (Accepted page book starts lens text scratch left place → ⊥) × ((r.reads ≡ 0) × ((scratch' ≡ scratch) × ((left' ≡ left) × (place' ≡ place))))
+-- it is walked for exactly where it is accepted, and the result is the letters read; else there is none, and all is as before
+pub record Answered (page : ℕ) (book starts lens text scratch left place : List ℕ) (r : Option ℕ) (scratch' left' place' : List ℕ) : Type 0 where
+  pub walked : (reads : ℕ) → r ≡ Some reads → Located page book starts lens text scratch left place reads scratch' left' place'
+  pub refused : r ≡ None → (Accepted page book starts lens text scratch left place → ⊥) × ((scratch' ≡ scratch) × ((left' ≡ left) × (place' ≡ place)))

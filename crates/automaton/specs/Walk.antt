@@ -1,6 +1,5 @@
 -- What the functions of the walk ask of each other. Not part of any public promise.
 use Rattle.std.specs.Prelude.{◌≡◌, ℕ, ◌^◌, ◌≤◌, ◌<◌, true, List, [], length, get_or}
-use Rattle.fold.specs.Fold.{is_page}
 use Rattle.phrases.specs.Phrases.{phrases_in, letters, is_set}
 use Rattle.tries.specs.Group.{Group}
 use Rattle.tries.specs.Rows.{Rowed}
@@ -38,14 +37,3 @@ pub record Ahead (t : List ℕ) (w count : ℕ) (text lens left place : List ℕ
 pub record Good (f : ℕ → ℕ) (book starts lens : List ℕ) : Type 0 where
   pub group : Group book starts lens
   pub most : letters (phrases_in f book starts lens) ≤ 4096
-
--- a page that there is, one phrase at least and 64 at most with an entry of each list for each, room in the scratch, and a text whose places fit 32 bits
-pub record Sized (page starts lens text scratch left place : ℕ) : Type 0 where
-  pub known : is_page page ≡ true
-  pub some : 1 ≤ starts
-  pub few : starts ≤ 64
-  pub pairs : starts ≡ lens
-  pub lefts : left ≡ starts
-  pub places : place ≡ starts
-  pub room : 65535 ≤ scratch
-  pub small : text ≤ 4294967295

@@ -1,8 +1,13 @@
 -- Folding (document 01, "Cue book, folding, lines"; document 02, (iii) and (iv)): small letters for capital ones, on page 1 (ISO 8859-1) and on page 15 (ISO 8859-15).
-use Rattle.std.specs.Prelude.{◌≡◌, ℕ, ◌+◌, min, Bool, cond, not, ◌&&◌, ◌||◌, List, [], ◌∷◌, map, length, eqb, leb}
+use Rattle.std.specs.Prelude.{◌≡◌, ℕ, ◌+◌, min, Bool, cond, not, ◌&&◌, ◌||◌, List, [], ◌∷◌, map, length, eqb, leb, Result, Ok, Err}
 use Rattle.matching.specs.declared.Answer.{Answer}
+use Rattle.matching.specs.declared.refusal.Refusal.{Refusal}
+use Rattle.matching.specs.declared.refusal.Refusal.TheVariants.{UnknownPage}
 use Rattle.matching.specs.Received.{received}
+use Rattle.matching.specs.Results.{number_of}
 use Rattle.fold.specs.declared.Folding.{Folding}
+use Rattle.fold.specs.declared.Page.{Page}
+use Rattle.fold.specs.declared.Page.TheVariants.{One, Fifteen}
 
 -- ---- page 1 adds 32 to 0x41-0x5A and to 0xC0-0xDE except 0xD7; all other bytes stay
 
@@ -36,12 +41,21 @@ folded15 c = paired pairs15 folded c
 unfoldable pub is_page : ℕ → Bool
 is_page page = eqb page 1 || eqb page 15
 
+-- the page that a number names; one that names none is refused with 14
+abbrev pub page_by : ℕ → Result Page Refusal
+page_by number = cond (eqb number 1) (Ok One) (cond (eqb number 15) (Ok Fifteen) (Err UnknownPage))
+
 -- its fold; where there is no such page, no call folds
 unfoldable pub fold_on : ℕ → ℕ → ℕ
 unfolding folded15
 fold_on page = cond (eqb page 15) folded15 folded
 
 -- ---- what the calls promise: 14 and 0, all as before, where there is no such page
+
+-- the letters written, as C receives them: 0 where the page is refused
+abbrev pub folding : Result ℕ Refusal → Folding
+folding (Ok n) = record { refusal = 0; number = n }
+folding (Err r) = record { refusal = number_of r; number = 0 }
 
 -- of a letter: 0 and what it folds to
 unfoldable pub letter_answer : ℕ → ℕ → Answer

@@ -1,5 +1,6 @@
 // Page 15 (ISO 8859-15): what each letter folds to, from 0 to 255. The program `page_table` prints these numbers from the rule, and the gate holds the two together.
-pub const PAGE_15: [u8; 256] = [
+// It is a static and no constant, so that it lies in the program's memory once, and is not laid out anew by each function that looks a letter up.
+pub static PAGE_15: [u8; 256] = [
     0, 1, 2, 3, 4, 5, 6, 7, 8, 9, 10, 11, 12, 13, 14, 15, 16, 17, 18, 19, 20, 21, 22, 23, 24, 25,
     26, 27, 28, 29, 30, 31, 32, 33, 34, 35, 36, 37, 38, 39, 40, 41, 42, 43, 44, 45, 46, 47, 48, 49,
     50, 51, 52, 53, 54, 55, 56, 57, 58, 59, 60, 61, 62, 63, 64, 97, 98, 99, 100, 101, 102, 103,

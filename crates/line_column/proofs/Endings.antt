@@ -1,7 +1,7 @@
 -- The endings of a text byte by byte: where an ending is over with a byte (`ends_line`), one ending more is wholly before the next place, and a line starts there (`ends_at`); any other byte
 -- adds none (`ends-not`). Assumes nothing.
 use mathlib.Core.Path.{◌≡◌, refl, sym, ap, ap₂, ◌∙◌}
-use Prim.Native.Nat.{ℕ, zero, suc, ◌+◌, ◌≤◌, ◌<◌}
+use Prim.Native.Nat.{ℕ, zero, suc, ◌+◌, ◌-◌, ◌≤◌, ◌<◌}
 use native.Mathlib.Omega.{arith}
 use mathlib.Core.Bool.{Bool, true, false, cond, ◌&&◌}
 use mathlib.Core.List.{List, [], ◌∷◌, ◌++◌, append-nil}
@@ -148,10 +148,31 @@ module _ (text : List ℕ) (i : ℕ) where
       (λ e. (omega (arith, (ends_at e).0), omega (arith, (ends_at e).0)))
       (λ e. (omega (arith, (ends-not e).0), omega (arith, (ends-not e).0)))
 
+-- the same told of a place by the byte before it, as code that goes byte by byte needs it
+module _ (text : List ℕ) where
+  pub ended_at : (place : ℕ) → 0 < place → ends_line (get_or text (place - 1) 0) (get_or text place 0) ≡ true → ends_before text place ≡ ends_before text (place - 1) + 1
+  ended_at zero h e = absurd (omega arith)
+  ended_at (suc i) h e = let s : suc i - 1 ≡ i = omega arith in rw s (let z = rw s at e in omega (arith, (ends_at text i z).0))
+
+  pub ended_not : (place : ℕ) → 0 < place → ends_line (get_or text (place - 1) 0) (get_or text place 0) ≡ false → ends_before text place ≡ ends_before text (place - 1)
+  ended_not zero h e = absurd (omega arith)
+  ended_not (suc i) h e = let s : suc i - 1 ≡ i = omega arith in rw s (let z = rw s at e in (ends-not text i z).0)
+
+  pub started_at : (place : ℕ) → 0 < place → ends_line (get_or text (place - 1) 0) (get_or text place 0) ≡ true → line_start text place ≡ place
+  started_at zero h e = absurd (omega arith)
+  started_at (suc i) h e = let s : suc i - 1 ≡ i = omega arith in let z = rw s at e in (ends_at text i z).1
+
+  pub started_not : (place : ℕ) → 0 < place → ends_line (get_or text (place - 1) 0) (get_or text place 0) ≡ false → line_start text place ≡ line_start text (place - 1)
+  started_not zero h e = absurd (omega arith)
+  started_not (suc i) h e = let s : suc i - 1 ≡ i = omega arith in rw s (let z = rw s at e in (ends-not text i z).1)
+
 -- no line ends before the text's start
 pub ends-start : (text : List ℕ) → (ends_before text 0 ≡ 0) × (line_start text 0 ≡ 0)
 unfolding ends_before line_start last_of
 ends-start text = let none = none_before 0 0 text (omega arith) in (ap length none, ap (last_of 0) none)
+
+pub started_none : (text : List ℕ) (i : ℕ) → i ≤ 0 → line_start text i ≡ i
+started_none text i h = let z : i ≡ 0 = omega arith in ap (line_start text) z ∙ (ends-start text).1 ∙ sym z
 
 -- no more lines end before a place than bytes stand there
 pub ends-few : (text : List ℕ) (k : ℕ) → ends_before text k ≤ k

@@ -86,6 +86,9 @@ module _ (text : List ℕ) (known place : ℕ) where
   unfolding line_column_from
   known-before line column h = rw (le-ltb end known h)
 
+  -- both, for the code
+  pub ruleset from_known = (known_past, known-before)
+
   -- the known place's own line and column give those of this place
   pub line_known : {told : LineColumn} → told ≡ line_column text known → line_column_from text known told.line told.column place ≡ line_column text place
   line_known {told} right =

@@ -24,45 +24,47 @@ fn ends_line(here: u8, next: u8) -> bool
 fn byte_at(text: &[u8], place: usize) -> u8
     ensures { result ≡ get_or text.now place 0 }
 {
-    if place < text.len() {
-        return text[place];
-    }
-    0
+    text.get(place).copied().unwrap_or(0)
 }
 
 // How many of the bytes from `start` up to `stop` end a line. They are at most 192, so that a byte holds the count and the compiler counts sixteen of them at a time; the byte at `stop` is in
 // the text, so that each of them has one after it.
+#[tactic(auto, using(crate::proofs::Endings::ended_at, crate::proofs::Endings::ended_not))]
 fn count_block(text: &[u8], start: usize, stop: usize) -> u8
     requires { (start ≤ stop) × ((stop ≤ start + 192) × (stop < length text.now)) }
-    ensures { ends_before text.now stop ≡ ends_before text.now start + result }
+    ensures counted { ends_before text.now stop ≡ ends_before text.now start + result }
+    ensures few { start + result ≤ stop }
 {
     let mut count = 0;
-    let mut i = start;
-    while i < stop {
+    for i in start..stop {
         if ends_line(text[i], text[i + 1]) {
             count += 1;
         }
-        i += 1;
     }
     count
 }
 
-// How many of the bytes from `start` up to `end` end a line, block by block. The last of them is looked at by itself, since the text may end there.
+// How many of the bytes from `start` up to `end` end a line, block by block. The last of them is looked at by itself, since the text may end there. A whole block has a call of its own, since the
+// compiler then knows its length: a stop that is told by `min` took a third more time.
+#[tactic(auto, using(crate::proofs::Endings::ended_at, crate::proofs::Endings::ended_not))]
 fn count_breaks(text: &[u8], start: usize, end: usize) -> usize
     requires { (start ≤ end) × (end ≤ length text.now) }
-    ensures { ends_before text.now end ≡ ends_before text.now start + result }
+    ensures counted { ends_before text.now end ≡ ends_before text.now start + result }
+    ensures few { start + result ≤ end }
 {
     if start == end {
         return 0;
     }
     let last = end - 1;
     let mut count = 0;
-    let mut i = start;
-    while 192 <= last - i {
-        count += count_block(text, i, i + 192) as usize;
-        i += 192;
+    for i in (start..last).step_by(192) {
+        let block = if i + 192 <= last {
+            count_block(text, i, i + 192)
+        } else {
+            count_block(text, i, last)
+        };
+        count += usize::from(block);
     }
-    count += count_block(text, i, last) as usize;
     if ends_line(text[last], byte_at(text, end)) {
         count += 1;
     }
@@ -70,21 +72,20 @@ fn count_breaks(text: &[u8], start: usize, end: usize) -> usize
 }
 
 // How many bytes stand after the last line end among the first `end`: it looks back from there.
+#[tactic(auto, using(crate::proofs::Endings::started_at, crate::proofs::Endings::started_not, crate::proofs::Endings::started_none))]
 fn count_back(text: &[u8], end: usize) -> usize
     requires { end ≤ length text.now }
     ensures { result ≡ end - line_start text.now end }
 {
-    let mut start = end;
     let mut next = byte_at(text, end);
-    while 0 < start {
-        let here = text[start - 1];
+    for start in (0..end).rev() {
+        let here = text[start];
         if ends_line(here, next) {
-            break;
+            return end - 1 - start;
         }
         next = here;
-        start -= 1;
     }
-    end - start
+    end
 }
 
 // The line and the column of a place in the text, told those of one at or before it: the bytes between the two are all that is looked at.
@@ -95,21 +96,20 @@ fn count_on(text: &[u8], start: usize, line: u32, column: u32, end: usize) -> Li
 {
     let count = count_breaks(text, start, end);
     let line = line as usize + count;
-    let mut column = column as usize + (end - start);
-    if 0 < count {
-        column = count_back(text, end) + 1;
-    }
+    let column = if 0 < count {
+        count_back(text, end) + 1
+    } else {
+        column as usize + (end - start)
+    };
     LineColumn { line, column }
 }
 
 // The line and the column of a place; a place past the text's end has those of the end. They are counted on from another place, told its own, or from the text's start if this one is before it.
+#[tactic(auto, using(crate::proofs::Lines::from_known))]
 pub fn line_column(text: &[u8], place: usize, known: usize, line: u32, column: u32) -> LineColumn
     ensures { result ≡ line_column_from text.now known line column place }
 {
-    let mut end = place;
-    if text.len() < place {
-        end = text.len();
-    }
+    let end = place.min(text.len());
     if end < known {
         return count_on(text, 0, 1, 1, end);
     }
