@@ -3,7 +3,7 @@ use mathlib.Core.Path.{◌≡◌, refl, sym, ap, ap₂, subst, ◌∙◌}
 use Prim.Native.Nat.{ℕ, ◌+◌, ◌-◌, ◌≤◌, ◌<◌}
 use native.Mathlib.Omega.{arith}
 use native.Mathlib.Numerals.{add-one}
-use mathlib.Core.Bool.{true, false, true≢false}
+use mathlib.Core.Bool.{Bool, true, false, true≢false}
 use mathlib.Core.List.{List, [], ◌∷◌, ◌++◌, map-append, append_assoc}
 use lib.ListN.{length, take, drop, set, length-append, length-drop, length-map}
 use lib.Seq.{length-take-le}
@@ -13,12 +13,14 @@ use Rattle.matching.proofs.Refusals.{Passed, numbers_to, all-passed}
 use Rattle.matching.proofs.Received.{received_none, received_more, received-whole}
 use Rattle.matching.proofs.Those.{those-nothing, those-next, those-skip}
 use Rattle.cue_fields.specs.declared.Due.TheVariants.{Ordinal}
-use Rattle.cue_fields.specs.Field.{number_in, field_body, after_field, value_tests, part}
-use Rattle.cues.specs.declared.Days.{Days}
-use Rattle.cues.specs.declared.Mark.{Mark}
+use Rattle.cue_fields.specs.Field.{number_in, field_body, after_field, value_tests, bytes_in}
+use Rattle.cues.specs.declared.Cue as found
 use Rattle.cues.specs.declared.Choice.{Choice}
-use Rattle.cues.specs.Cue.{Cue, days_hold, plays_on, sees, seen_by}
-use Rattle.cues.specs.Reading.{cue_refusal, cue_of}
+use Rattle.matching.proofs.CaseAnalysis.{by-test, both}
+use Rattle.std.specs.Prelude.{◌&&◌}
+use Rattle.std.specs.Int.{from_bool}
+use Rattle.cues.specs.Cue.{Cue, is_chosen, days_hold, plays_on, sees, seen_by}
+use Rattle.cues.specs.Reading.{cue_refusal, cue_size, cue_of}
 use Rattle.cues.proofs.Cues.{cue-ordinal, ordinal-body, CueAt, phrase-inside}
 use Rattle.cue_book.specs.Reading.{read_up_to, seen, cues_in}
 use Rattle.cue_book.proofs.Books.{read-end, Left, First, left-first, left-same}
@@ -62,38 +64,37 @@ ordinal-some rest e =
 
 module _
     {book : List ℕ}
-    {number place phrase phrase-end ordinal title title-end end : ℕ}
-    {days : Days}
-    {mark : Mark}
+    {number place : ℕ}
     {rest : List Cue}
+    {read : found.Cue}
     (n : Next book number place rest)
-    (c : CueAt book place phrase phrase-end ordinal title title-end days mark end)
+    (c : CueAt book place read)
   where
     -- its phrase, the phrase's length, its ordinal, its days and its mark are those that were read
-    phrase-read : part book phrase phrase-end ≡ n.cue.phrase
+    phrase-read : bytes_in book read.phrase ≡ n.cue.phrase
     phrase-read = ap (λ (x : Cue). x.phrase) (c.meant ∙ n.begun.cue)
 
-    ordinal-read : ordinal ≡ n.cue.ordinal
+    ordinal-read : read.ordinal ≡ n.cue.ordinal
     ordinal-read = ap (λ (x : Cue). x.ordinal) (c.meant ∙ n.begun.cue)
 
-    days-read : (day : ℕ) → days_hold day days ≡ plays_on day n.cue
+    days-read : (day : ℕ) → days_hold day read.days ≡ plays_on day n.cue
     days-read day = ap (λ (x : Cue). plays_on day x) (c.meant ∙ n.begun.cue)
 
-    mark-read : (role : ℕ) → sees role mark ≡ seen_by role n.cue
+    mark-read : (role : ℕ) → sees role read.mark ≡ seen_by role n.cue
     mark-read role = ap (λ (x : Cue). seen_by role x) (c.meant ∙ n.begun.cue)
 
-    length-read : phrase-end - phrase ≡ length n.cue.phrase
+    length-read : read.phrase.end - read.phrase.start ≡ length n.cue.phrase
     length-read =
         let i = phrase-inside c in
-        sym (length-take-le (phrase-end - phrase) (drop phrase book) (omega (arith, i.inside, i.ordered, length-drop phrase book))) ∙ ap length phrase-read
+        sym (length-take-le (read.phrase.end - read.phrase.start) (drop read.phrase.start book) (omega (arith, i.inside, i.ordered, length-drop read.phrase.start book))) ∙ ap length phrase-read
 
     held-here : Held book
     held-here =
         let i = phrase-inside c in
         record {
-          start = phrase;
+          start = read.phrase.start;
           cue = n.cue;
-          letters = ap (λ (k : ℕ). take k (drop phrase book)) (sym length-read) ∙ phrase-read;
+          letters = ap (λ (k : ℕ). take k (drop read.phrase.start book)) (sym length-read) ∙ phrase-read;
           inside = omega (arith, length-read, i.inside, i.ordered);
           some = omega (arith, length-read, i.some);
           named = subst (λ (x : Cue). 1 ≤ x.ordinal) n.begun.cue (ordinal-some (drop place book) c.none);
@@ -133,21 +134,25 @@ module _ {who : Choice} {book : List ℕ} {number place index at : ℕ} (r : Rem
   pub skips-few : index < 999
   skips-few = omega (arith, (skips-next.begun.then refl).count)
 
-  module _ {phrase phrase-end ordinal title title-end end : ℕ} {days : Days} {mark : Mark} (c : CueAt book at phrase phrase-end ordinal title title-end days mark end) where
+  module _ {read : found.Cue} (c : CueAt book at read) where
+    -- where it ends
+    ends : read.end ≡ at + cue_size (drop at book)
+    ends = ap (λ (x : found.Cue). x.end) c.is
+
     abbrev next : Next book index at s.rest
     next = skips-next
 
     -- the role does not see this one, so that it has no number
-    pub skips-unseen : sees who.role mark ≡ false → Skips who book number place index end
+    pub skips-unseen : sees who.role read.mark ≡ false → Skips who book number place index read.end
     skips-unseen e =
         record {
           rest = next.later;
-          left = left-same (next.begun.then c.end_is);
+          left = left-same (next.begun.then ends);
           same = s.same ∙ ap (chosen_from who.day index) (ap (seen who.role) next.is ∙ those-skip (seen_by who.role) next.cue next.later (sym (mark-read next c who.role) ∙ e));
           passed = s.passed;
         }
 
-    module _ (seen-here : sees who.role mark ≡ true) where
+    module _ (seen-here : sees who.role read.mark ≡ true) where
       -- the role sees it, and then the others
       first-seen : chosen_at who book number place ≡ chosen_from who.day index (next.cue ∷ seen who.role next.later)
       first-seen =
@@ -155,11 +160,11 @@ module _ {who : Choice} {book : List ℕ} {number place index at : ℕ} (r : Rem
           ∙ ap (chosen_from who.day index) (ap (seen who.role) next.is ∙ those-next (seen_by who.role) next.cue next.later (sym (mark-read next c who.role) ∙ seen-here))
 
       -- it does not play
-      pub skips-more : days_hold who.day days ≡ false → Skips who book number place (index + 1) end
+      pub skips-more : days_hold who.day read.days ≡ false → Skips who book number place (index + 1) read.end
       skips-more e =
           record {
             rest = next.later;
-            left = next.begun.then c.end_is;
+            left = next.begun.then ends;
             same =
                 first-seen ∙ chosen-not who.day index next.cue (seen who.role next.later) (sym (days-read next c who.day) ∙ e)
                 ∙ ap (λ (k : ℕ). chosen_from who.day k (seen who.role next.later)) (sym (add-one index));
@@ -167,8 +172,8 @@ module _ {who : Choice} {book : List ℕ} {number place index at : ℕ} (r : Rem
           }
 
       -- it does
-      pub skips-end : days_hold who.day days ≡ true
-          → NextRead who book number place (record { number = index; phrase = phrase; phrase_end = phrase-end; ordinal = ordinal; end = end })
+      pub skips-end : days_hold who.day read.days ≡ true
+          → NextRead who book number place (record { number = index; phrase = read.phrase; ordinal = read.ordinal; end = read.end })
       unfolding held-here
       skips-end e =
           let i = phrase-inside c in
@@ -183,8 +188,25 @@ module _ {who : Choice} {book : List ℕ} {number place index at : ℕ} (r : Rem
             short = omega (arith, length-read next c, i.short);
             ordinal = ordinal-read next c;
             passed = s.passed;
-            left = cues-left who (next.begun.then c.end_is);
+            left = cues-left who (next.begun.then ends);
           }
+
+    -- it is chosen
+    pub skips-chosen : is_chosen who read.mark read.days ≡ true → NextRead who book number place (record { number = index; phrase = read.phrase; ordinal = read.ordinal; end = read.end })
+    skips-chosen e = let b = both (sees who.role read.mark) (days_hold who.day read.days) e in skips-end b.0 b.1
+
+    -- it is not, and counts where the role sees it
+    pub skips-on : is_chosen who read.mark read.days ≡ false → {next : ℕ} → next ≡ index + from_bool (sees who.role read.mark) → Skips who book number place next read.end
+    skips-on e {next} n =
+        by-test (λ t. (t && days_hold who.day read.days ≡ false) → next ≡ index + from_bool t → Skips who book number place next read.end) (sees who.role read.mark)
+        (λ seen-here h k. subst (λ (i : ℕ). Skips who book number place i read.end) (sym k) (skips-more seen-here h))
+        (λ unseen h k. subst (λ (i : ℕ). Skips who book number place i read.end) (omega (arith, k)) (skips-unseen unseen))
+        e n
+
+-- a number that is few stays so where a test is counted
+pub few-more : {index n : ℕ} (t : Bool) → index < 999 → n ≡ from_bool t → index + n ≤ 999
+few-more true h e = omega (arith, h, e)
+few-more false h e = omega (arith, h, e)
 
 -- ---- along the group
 
@@ -247,7 +269,7 @@ module _ {who : Choice} {book : List ℕ} {number place : ℕ} {starts₀ lens�
 
   -- where it ends: the arrays' first entries are the group's
   ended : 1 ≤ count → (1 ≤ length (cues_of g.later) → fits (cues_of g.items ++ take 1 (cues_of g.later)) ≡ false) → 64 ≤ length starts₀ → 64 ≤ length lens₀ → 64 ≤ length ordinals₀ → 64 ≤ length numbers₀
-      → Gathered who book number place (record { count = count; number = next; end = end }) starts lens ordinals numbers
+      → Gathered who book number place (record { count = count; after = record { number = next; place = end } }) starts lens ordinals numbers
   ended some closed s l o m =
       let hs : List (Held book) = g.held in
       let size : length (cues_of g.items) ≡ count = length-map g.items (λ (x : Numbered). x.cue) ∙ sym g.counted in
@@ -275,15 +297,16 @@ module _ {who : Choice} {book : List ℕ} {number place : ℕ} {starts₀ lens�
 
   module _ {rest : ℕ} (lent : Gatherable who book number rest place starts₀ lens₀ ordinals₀ numbers₀) where
     -- no cue is left
-    pub gathered-all : rest ≤ count → Gathered who book number place (record { count = count; number = next; end = end }) starts lens ordinals numbers
+    pub gathered-all : rest ≡ count → Gathered who book number place (record { count = rest; after = record { number = next; place = end } }) starts lens ordinals numbers
     gathered-all all =
-        ended
+        subst (λ (k : ℕ). Gathered who book number place (record { count = k; after = record { number = next; place = end } }) starts lens ordinals numbers) (sym all)
+        (ended
         (omega (arith, all, lent.remaining.some, lent.rest-are))
         (λ h. absurd (omega (arith, all, all_left, lent.rest-are, length-map g.later (λ (x : Numbered). x.cue))))
         lent.starts-room
         lent.lens-room
         lent.ordinals-room
-        lent.numbers-room
+        lent.numbers-room)
 
     module _ {r : NextCue} (n : NextRead who book next end r) where
       -- the cue is the first of those left
@@ -293,30 +316,30 @@ module _ {who : Choice} {book : List ℕ} {number place : ℕ} {starts₀ lens�
       first-left : g.later ≡ this ∷ n.later
       first-left = sym g.left.are ∙ n.split
 
-      len_is : r.phrase_end - r.phrase ≡ length n.held.cue.phrase
+      len_is : r.phrase.end - r.phrase.start ≡ length n.held.cue.phrase
       len_is = omega (arith, n.stop)
 
       -- it does not fit
-      pub gathered-full : fitting (count + 1) (sum + (r.phrase_end - r.phrase)) ≡ false → Gathered who book number place (record { count = count; number = next; end = end }) starts lens ordinals numbers
+      pub gathered-full : fitting (count + 1) (sum + (r.phrase.end - r.phrase.start)) ≡ false → Gathered who book number place (record { count = count; after = record { number = next; place = end } }) starts lens ordinals numbers
       unfolding letters
       gathered-full full =
           let group : List Cue = cues_of g.items ++ take 1 (cues_of g.later) in
           let first : take 1 (cues_of g.later) ≡ n.held.cue ∷ [] = ap (λ (l : List Numbered). take 1 (cues_of l)) first-left in
           let cues : count + 1 ≡ length group = omega (arith, length-append (cues_of g.items) (take 1 (cues_of g.later)), g.counted, length-map g.items (λ (x : Numbered). x.cue), ap length first) in
-          let bytes : sum + (r.phrase_end - r.phrase) ≡ letters group = omega (arith, letters-more (cues_of g.items) (take 1 (cues_of g.later)), g.summed, len_is, ap letters first) in
+          let bytes : sum + (r.phrase.end - r.phrase.start) ≡ letters group = omega (arith, letters-more (cues_of g.items) (take 1 (cues_of g.later)), g.summed, len_is, ap letters first) in
           ended (some g.items g.summed g.counted) (λ _. ap₂ fitting (sym cues) (sym bytes) ∙ full) lent.starts-room lent.lens-room lent.ordinals-room lent.numbers-room
         where
           -- one cue by itself does
           some : (xs : List Numbered) → sum ≡ letters (cues_of xs) → count ≡ length xs → 1 ≤ count
           some [] e k = absurd (true≢false (sym fit-one ∙ full))
             where
-              fit-one : fitting (count + 1) (sum + (r.phrase_end - r.phrase)) ≡ true
-              fit-one = fitting-when (count + 1) (sum + (r.phrase_end - r.phrase)) (omega (arith, k)) (omega (arith, e, len_is, n.short))
+              fit-one : fitting (count + 1) (sum + (r.phrase.end - r.phrase.start)) ≡ true
+              fit-one = fitting-when (count + 1) (sum + (r.phrase.end - r.phrase.start)) (omega (arith, k)) (omega (arith, e, len_is, n.short))
           some (x ∷ xs) e k = omega (arith, k)
 
       -- it is gathered
-      pub gathers-next : {sum' : ℕ} → sum' ≡ sum + (r.phrase_end - r.phrase) → fitting (count + 1) sum' ≡ true
-          → Gathers who book number place starts₀ lens₀ ordinals₀ numbers₀ (count + 1) sum' (r.number + 1) r.end (set starts count r.phrase) (set lens count (r.phrase_end - r.phrase)) (set ordinals count r.ordinal) (set numbers count r.number)
+      pub gathers-next : {sum' : ℕ} → sum' ≡ sum + (r.phrase.end - r.phrase.start) → fitting (count + 1) sum' ≡ true
+          → Gathers who book number place starts₀ lens₀ ordinals₀ numbers₀ (count + 1) sum' (r.number + 1) r.end (set starts count r.phrase.start) (set lens count (r.phrase.end - r.phrase.start)) (set ordinals count r.ordinal) (set numbers count r.number)
       unfolding letters
       gathers-next {sum'} e h =
           let xs : List Numbered = g.items in

@@ -10,11 +10,14 @@ use lib.Dec.{eqb}
 use borrow.Author.Tests.{eq-eqb, ne_eqb, eqb-false}
 use Rattle.matching.specs.Received.{received_from}
 use Rattle.matching.proofs.CaseAnalysis.{by-test}
-use Rattle.matching.proofs.Received.{received-over, received-one}
+use Rattle.matching.proofs.Find.{number-some}
 use Rattle.line_column.specs.declared.LineColumn.{LineColumn}
+use Rattle.matching.proofs.Received.{received-over, received-one}
+use Rattle.matching.specs.declared.refusal.Refusal.{Refusal}
+use Rattle.matching.specs.Results.{number_of}
 use Rattle.line_column.specs.LineColumn.{last_of, line_column}
 use Rattle.outcome.specs.Outcome.{fault_of, entries_of}
-use Rattle.resolver.specs.Walking.{Passing, passing, Put}
+use Rattle.resolver.specs.Walking.{Passing, passing, PutAll, PutSome}
 
 -- three values more
 three-more : (at b c d : ℕ) (list : List ℕ) (x y z : ℕ) (values : List ℕ) → b ≡ suc at → c ≡ suc (suc at) → d ≡ suc (suc (suc at))
@@ -61,26 +64,26 @@ puts_none text index left places known entries =
       inside = omega arith;
     }
 
-module _ {text : List ℕ} {index : ℕ} {left places : List ℕ} {known : ℕ} {entries₀ : List ℕ} {count last : ℕ} {entries : List ℕ} {spot : LineColumn} (p : Puts text index left places known entries₀ count last entries) (told : spot ≡ line_column text last) where
+module _ {text : List ℕ} {index : ℕ} {left places : List ℕ} {known : ℕ} {entries₀ : List ℕ} {count last : ℕ} {entries : List ℕ} (p : Puts text index left places known entries₀ count last entries) where
   abbrev rest_of : Passing
   rest_of = ahead index left places count last
 
   -- nothing more is put
-  done : {refusal : ℕ} → rest_of ≡ record { refusal = refusal; places = [] } → Put text index left places known entries₀ (record { refusal = refusal; count = count; known = last; spot = spot }) entries
+  nothing_more : {refusal : ℕ} → rest_of ≡ record { refusal = refusal; places = [] } → entries ≡ received_from (3 * index) entries₀ (entries_of text (passing index known left places).places)
   unfolding entries_of
-  done {refusal} none =
+  nothing_more none = sym (received-over (3 * (index + count)) entries) ∙ ap (λ (s : Passing). received_from (3 * (index + count)) entries (entries_of text s.places)) (sym none) ∙ p.goal
+
+  -- the group ends
+  pub puts-end : length left ≤ count → {at : LineColumn} → at ≡ line_column text last → PutAll text index left places known entries₀ (record { place = last; at = at }) entries
+  unfolding passing last_of
+  puts-end h told =
+      let none = empty (drop count left) (omega (arith, h, length-drop count left)) in
       record {
-        refused = sym (ap (λ (s : Passing). s.refusal) none) ∙ p.refused;
-        counted = omega (arith, p.counted, ap (λ (s : Passing). length s.places) none);
-        entered = sym (received-over (3 * (index + count)) entries) ∙ ap (λ (s : Passing). received_from (3 * (index + count)) entries (entries_of text s.places)) (sym none) ∙ p.goal;
+        none = sym p.refused ∙ ap (λ (s : Passing). s.refusal) none;
+        entered = nothing_more none;
         last = ap (λ (s : Passing). last_of last s.places) (sym none) ∙ p.at;
         spot = told;
       }
-
-  -- the group ends
-  pub puts-end : length left ≤ count → Put text index left places known entries₀ (record { refusal = 0; count = count; known = last; spot = spot }) entries
-  unfolding passing
-  puts-end h = done (empty (drop count left) (omega (arith, h, length-drop count left)))
     where
       empty : (l : List ℕ) → length l ≡ 0 → passing (index + count) last l (drop count places) ≡ record { refusal = 0; places = [] }
       empty [] e = refl
@@ -97,10 +100,15 @@ module _ {text : List ℕ} {index : ℕ} {left places : List ℕ} {known : ℕ} 
     here = ap₂ (passing (index + count) last) (drop-cons left count 0 h) (drop-cons places count 0 (omega (arith, h, even)))
 
     -- a cue with a fault
-    pub puts-stop : {refusal : ℕ} → refusal ≡ fault_of (eqb l 0) (index + count) last q → (refusal ≡ 0 → ⊥)
-        → Put text index left places known entries₀ (record { refusal = refusal; count = count; known = last; spot = spot }) entries
-    puts-stop {refusal} e some =
-        done (here ∙ passing-stop (index + count) last l q (drop (suc count) left) (drop (suc count) places) (λ z. some (e ∙ z)) ∙ ap (λ (n : ℕ). record { refusal = n; places = [] }) (sym e))
+    pub puts-stop : {refusal : Refusal} {number : ℕ} {numbers : List ℕ} → number_of refusal ≡ fault_of (eqb l 0) (index + count) last q → number ≡ get_or numbers count 0
+        → PutSome text index left places numbers known entries₀ (record { refusal = refusal; number = number }) entries
+    puts-stop {refusal} {number} {numbers} e named =
+        let none = here ∙ passing-stop (index + count) last l q (drop (suc count) left) (drop (suc count) places) (λ z. omega (arith, e, z, number-some refusal)) in
+        record {
+          refused = e ∙ sym (ap (λ (s : Passing). s.refusal) none) ∙ p.refused;
+          number = named ∙ ap (λ (k : ℕ). get_or numbers k 0) (omega (arith, p.counted, ap (λ (s : Passing). length s.places) none));
+          entered = nothing_more none;
+        }
 
     -- one without
     pub puts-next : {entries' : List ℕ} → fault_of (eqb l 0) (index + count) last q ≡ 0

@@ -13,7 +13,7 @@ use Rattle.matching.proofs.CaseAnalysis.{by-test}
 use Rattle.fold.specs.Fold.{fold_on}
 use Rattle.phrases.specs.Phrases as phrases
 use Rattle.phrases.specs.Phrases.{phrases_in}
-use Rattle.automaton.specs.declared.Walked.{Walked}
+use Rattle.std.specs.Prelude.{Option, Some, None}
 use Rattle.automaton.specs.Locate.{Accepted, Located, Answered}
 use Rattle.automaton.proofs.Locating as locating
 use Rattle.cues.specs.declared.Choice.{Choice}
@@ -104,18 +104,21 @@ module _ {who : Choice} {page : ℕ} {book : List ℕ} {number rest place : ℕ}
         small = omega (arith, lent.small);
       }
 
-  module _ {places : List ℕ} (long : length places ≡ r.count) {w : Walked} {scratch' left' places' : List ℕ} (a : Answered page book (take r.count starts) (take r.count lens) copy scratch (take r.count left) places w scratch' left' places') where
-    -- so it walked
-    pub located : Located page book (starts_of hs) (lens_of hs) copy scratch (ordinals_of hs) places w.reads scratch' left' places'
-    located =
-        let b : Answered page book (starts_of hs) (lens_of hs) copy scratch (ordinals_of hs) places w scratch' left' places' =
-        subst (λ (l : List ℕ). Answered page book (starts_of hs) (lens_of hs) copy scratch l places w scratch' left' places') g.ordinals
-        (subst (λ (l : List ℕ). Answered page book (starts_of hs) l copy scratch (take r.count left) places w scratch' left' places') g.lens
-        (subst (λ (l : List ℕ). Answered page book l (take r.count lens) copy scratch (take r.count left) places w scratch' left' places') g.starts a)) in
-        by-test (λ t. (w.done ≡ t) → Located page book (starts_of hs) (lens_of hs) copy scratch (ordinals_of hs) places w.reads scratch' left' places') w.done
-        (λ _ e. b.walked e)
-        (λ _ e. absurd ((b.refused e).0 (accepted long)))
-        refl
+  module _ {places : List ℕ} (long : length places ≡ r.count) where
+    -- so it walks
+    walks : {o : Option ℕ} {scratch' left' places' : List ℕ} → Answered page book (take r.count starts) (take r.count lens) copy scratch (take r.count left) places o scratch' left' places'
+        → Answered page book (starts_of hs) (lens_of hs) copy scratch (ordinals_of hs) places o scratch' left' places'
+    walks {o} {scratch'} {left'} {places'} a =
+        subst (λ (l : List ℕ). Answered page book (starts_of hs) (lens_of hs) copy scratch l places o scratch' left' places') g.ordinals
+        (subst (λ (l : List ℕ). Answered page book (starts_of hs) l copy scratch (take r.count left) places o scratch' left' places') g.lens
+        (subst (λ (l : List ℕ). Answered page book l (take r.count lens) copy scratch (take r.count left) places o scratch' left' places') g.starts a))
+
+    pub walked : {scratch' left' places' : List ℕ} → Answered page book (take r.count starts) (take r.count lens) copy scratch (take r.count left) places None scratch' left' places' → ⊥
+    walked a = ((walks a).refused refl).0 (accepted long)
+
+  module _ {places : List ℕ} (long : length places ≡ r.count) {reads : ℕ} {scratch' left' places' : List ℕ} (a : Answered page book (take r.count starts) (take r.count lens) copy scratch (take r.count left) places (Some reads) scratch' left' places') where
+    pub located : Located page book (starts_of hs) (lens_of hs) copy scratch (ordinals_of hs) places reads scratch' left' places'
+    located = (walks long a).walked reads refl
 
     left-size : length left' ≡ r.count
     left-size = locating.left-long located ∙ length-map hs (λ (h : Held book). h.cue.ordinal) ∙ sym size-held
@@ -157,7 +160,7 @@ module _ {who : Choice} {page : ℕ} {book : List ℕ} {number rest place : ℕ}
             )
 
     -- it stands at the front of the arrays
-    pub searched : (more more₂ : List ℕ) → Searched who page book number place copy scratch (record { count = r.count; number = r.number; end = r.end; reads = w.reads }) scratch' (left' ++ more) (places' ++ more₂) numbers
+    pub searched : (more more₂ : List ℕ) → Searched who page book number place copy scratch (record { count = r.count; after = r.after; reads = reads }) scratch' (left' ++ more) (places' ++ more₂) numbers
     searched more more₂ =
         let front = held left-size more in
         let front₂ = held places-size more₂ in

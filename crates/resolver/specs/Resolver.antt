@@ -1,5 +1,6 @@
 -- What a resolve promises (document 01, "Cue book, folding, lines"; document 02, (iv), (vi), (viii) and (xiv)): what is given back, and the lent memory afterwards, by the outcome of a call (crate `outcome`).
-use Rattle.std.specs.Prelude.{◌≡◌, ℕ, true, false, cond, List, ◌++◌, map, length, drop, replicate}
+use Rattle.std.specs.Prelude.{◌≡◌, ℕ, true, false, cond, List, ◌++◌, map, length, drop, replicate, Result, Ok, Err}
+use Rattle.matching.specs.Results.{number_of}
 use Rattle.matching.specs.Received.{received}
 use Rattle.fold.specs.Fold.{fold_on}
 use Rattle.cues.specs.declared.Choice.{Choice}
@@ -7,7 +8,14 @@ use Rattle.cues.specs.Cue.{Cue}
 use Rattle.cue_book.specs.Reading.{read_book}
 use Rattle.outcome.specs.Outcome.{Call, Resolution, Outcome, outcome}
 use Rattle.outcome.specs.Told.{SameCue, names_cue}
+use Rattle.resolver.specs.declared.AllPlaced.{AllPlaced}
+use Rattle.resolver.specs.declared.Unresolved.{Unresolved}
 use Rattle.resolver.specs.declared.Resolving.{Resolving}
+
+-- what was told, as C receives it
+abbrev pub resolving : Result AllPlaced Unresolved → Resolving
+resolving (Ok r) = record { refusal = 0; number = r.cues; reads = r.reads }
+resolving (Err u) = record { refusal = number_of u.fault.refusal; number = u.fault.number; reads = u.reads }
 
 -- the call for this role and day on this page with this text, and with this text copy, scratch and cue entries lent
 abbrev pub call : Choice → ℕ → List ℕ → List ℕ → List ℕ → List ℕ → Call

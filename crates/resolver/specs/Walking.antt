@@ -1,21 +1,23 @@
 -- What the resolver asks of its walk over the groups of a book's cues. Not part of any public promise.
-use Rattle.std.specs.Prelude.{◌≡◌, ℕ, suc, ◌+◌, ◌-◌, ◌*◌, ◌≤◌, ◌<◌, true, false, cond, List, [], ◌∷◌, ◌++◌, map, length, get_or, take, drop, replicate, eqb}
+use Rattle.std.specs.Prelude.{◌≡◌, ℕ, suc, ◌+◌, ◌-◌, ◌*◌, ◌≤◌, ◌<◌, true, false, cond, List, [], ◌∷◌, ◌++◌, map, length, get_or, take, drop, replicate, eqb, Result, Ok, Err}
+use Rattle.matching.specs.declared.Fault.{Fault}
+use Rattle.matching.specs.Results.{number_of}
 use Rattle.matching.specs.Received.{received, received_from}
 use Rattle.fold.specs.Fold.{is_page, fold_on}
 use Rattle.cues.specs.declared.Choice.{Choice}
 use Rattle.cues.specs.Cue.{Cue}
 use Rattle.cue_book.specs.Reading.{cues, read_up_to, read_book, seen, playing_for, cues_in}
-use Rattle.line_column.specs.declared.LineColumn.{LineColumn}
 use Rattle.line_column.specs.LineColumn.{last_of, line_column}
 use Rattle.outcome.specs.Outcome.{Numbered, chosen_from, chosen, cues_of, is_there, place_of, fault_of, place_before, judge, entries_of, Resolution, resolution}
 use Rattle.outcome.specs.Told.{Group}
 use Rattle.resolver.specs.declared.Resolving.{Resolving}
+use Rattle.resolver.specs.declared.Unresolved.{Unresolved}
 use Rattle.resolver.specs.Resolver.{answer_of}
 use Rattle.resolver.specs.declared.NextCue.{NextCue}
 use Rattle.resolver.specs.declared.CuesRead.{CuesRead}
 use Rattle.resolver.specs.declared.GroupFound.{GroupFound}
-use Rattle.resolver.specs.declared.EntriesPut.{EntriesPut}
-use Rattle.resolver.specs.declared.GroupResolved.{GroupResolved}
+use Rattle.resolver.specs.declared.Spot.{Spot}
+use Rattle.resolver.specs.declared.Walk.{Walk}
 
 -- ---- where a walk stands in the book
 
@@ -79,8 +81,8 @@ pub record NextRead (who : Choice) (book : List ℕ) (number place : ℕ) (r : N
   pub held : Held book
   pub later : List Numbered
   pub split : chosen_at who book number place ≡ record { number = r.number; cue = held.cue } ∷ later
-  pub start : r.phrase ≡ held.start
-  pub stop : r.phrase_end ≡ r.phrase + length held.cue.phrase
+  pub start : r.phrase.start ≡ held.start
+  pub stop : r.phrase.end ≡ r.phrase.start + length held.cue.phrase
   pub short : length held.cue.phrase ≤ 1024
   pub ordinal : r.ordinal ≡ held.cue.ordinal
   pub passed : number ≤ r.number
@@ -97,7 +99,7 @@ pub record Gatherable (who : Choice) (book : List ℕ) (number rest place : ℕ)
 
 -- their first entries are the group's
 pub record Gathered (who : Choice) (book : List ℕ) (number place : ℕ) (r : CuesRead) (starts' lens' ordinals' numbers' : List ℕ) : Type 0 where
-  pub next : NextGroup who book number place r.count r.number r.end
+  pub next : NextGroup who book number place r.count r.after.number r.after.place
   pub held : List (Held book)
   pub cues : cues_of next.group ≡ cues_held held
   pub starts : take r.count starts' ≡ starts_of held
@@ -124,7 +126,7 @@ pub record Told (f : ℕ → ℕ) (text left places : List ℕ) (group : List Cu
 
 -- every letter was read once, the scratch is 0 throughout, and of whatever text the copy is the folding, its cues are told
 pub record Searched (who : Choice) (page : ℕ) (book : List ℕ) (number place : ℕ) (copy scratch : List ℕ) (r : GroupFound) (scratch' left' places' numbers' : List ℕ) : Type 0 where
-  pub next : NextGroup who book number place r.count r.number r.end
+  pub next : NextGroup who book number place r.count r.after.number r.after.place
   pub reads : r.reads ≡ length copy
   pub emptied : scratch' ≡ replicate (length scratch) 0
   pub lefts : length (take r.count left') ≡ r.count
@@ -149,41 +151,77 @@ passing before last (l ∷ left) (p ∷ places) =
     let fault : ℕ = fault_of (eqb l 0) before last p in
     cond (eqb fault 0) (record { refusal = rest.refusal; places = p ∷ rest.places }) (record { refusal = fault; places = [] })
 
-pub record Put (text : List ℕ) (index : ℕ) (left places : List ℕ) (known : ℕ) (entries : List ℕ) (r : EntriesPut) (entries' : List ℕ) : Type 0 where
-  pub refused : r.refusal ≡ (passing index known left places).refusal
-  pub counted : r.count ≡ length (passing index known left places).places
+-- a group of at most 64 of a book's cues is to be put in a text, and the last spot is known
+pub record Puttable (text : List ℕ) (index : ℕ) (left places numbers : List ℕ) (known : Spot) : Type 0 where
+  pub few : index + length left ≤ 999
+  pub places-are : length left ≡ length places
+  pub numbers-are : length left ≡ length numbers
+  pub small : length text ≤ 32768
+  pub spot : known.at ≡ line_column text known.place
+
+-- all passed: their entries were put, and the last spot is the last one's
+pub record PutAll (text : List ℕ) (index : ℕ) (left places : List ℕ) (known : ℕ) (entries : List ℕ) (s : Spot) (entries' : List ℕ) : Type 0 where
+  pub none : (passing index known left places).refusal ≡ 0
   pub entered : entries' ≡ received_from (3 * index) entries (entries_of text (passing index known left places).places)
-  pub last : r.known ≡ last_of known (passing index known left places).places
-  pub spot : r.spot ≡ line_column text r.known
+  pub last : s.place ≡ last_of known (passing index known left places).places
+  pub spot : s.at ≡ line_column text s.place
+
+-- one has this fault: those before it were put
+pub record PutSome (text : List ℕ) (index : ℕ) (left places numbers : List ℕ) (known : ℕ) (entries : List ℕ) (f : Fault) (entries' : List ℕ) : Type 0 where
+  pub refused : number_of f.refusal ≡ (passing index known left places).refusal
+  pub number : f.number ≡ get_or numbers (length (passing index known left places).places) 0
+  pub entered : entries' ≡ received_from (3 * index) entries (entries_of text (passing index known left places).places)
+
+abbrev pub Put : List ℕ → ℕ → List ℕ → List ℕ → List ℕ → ℕ → List ℕ → Result Spot Fault → List ℕ → Type 0
+Put text index left places numbers known entries (Ok s) entries' = PutAll text index left places known entries s entries'
+Put text index left places numbers known entries (Err f) entries' = PutSome text index left places numbers known entries f entries'
 
 -- ---- a group resolved
 
-pub record Begun (who : Choice) (page : ℕ) (book : List ℕ) (number index rest place : ℕ) (text copy scratch : List ℕ) (known : ℕ) (told : LineColumn) : Type 0 where
-  pub remaining : Remaining who book number place
-  pub rest-are : rest ≡ length (chosen_at who book number place)
-  pub behind : index ≤ number
+pub record Begun (who : Choice) (page : ℕ) (book : List ℕ) (rest : ℕ) (text copy scratch : List ℕ) (w : Walk) : Type 0 where
+  pub remaining : Remaining who book w.cursor.number w.cursor.place
+  pub rest-are : rest ≡ length (chosen_at who book w.cursor.number w.cursor.place)
+  pub behind : w.index ≤ w.cursor.number
   pub known-page : is_page page ≡ true
   pub small : length text ≤ 32768
   pub copied : copy ≡ map (fold_on page) text
   pub room : 65535 ≤ length scratch
-  pub spot : told ≡ line_column text known
+  pub few : w.reads ≤ 32735232
+  pub spot : w.spot.at ≡ line_column text w.spot.place
 
--- the places of the cues before the first one with a fault, and their entries. By them the group is judged, whatever places were found before: as many as the index says, and the last of them the known
--- one
-pub record Grouped (who : Choice) (page : ℕ) (book : List ℕ) (number index place : ℕ) (text scratch entries : List ℕ) (known : ℕ) (r : GroupResolved) (scratch' entries' : List ℕ) : Type 0 where
-  pub count : ℕ
-  pub next : NextGroup who book number place count r.next r.end
-  pub places : List ℕ
-  pub put : r.put ≡ length places
-  pub judged : (found : List ℕ) → index ≡ length found → known ≡ place_before found
-      → judge (fold_on page) text found next.group ≡ record { refusal = r.refusal; number = cond (eqb r.refusal 0) (index + r.put) r.number; places = found ++ places }
-  pub whole : r.refusal ≡ 0 → r.put ≡ count
-  pub stopped : (r.refusal ≡ 0 → ⊥) → r.put < count
-  pub entered : entries' ≡ received_from (3 * index) entries (entries_of text places)
-  pub last : r.known ≡ last_of known places
-  pub spot : r.spot ≡ line_column text r.known
-  pub reads : r.reads ≡ length text
+-- a group of so many cues, of which those before the first one with a fault have these places, and their entries. By them the group is judged, whatever places were found before: as many as the index says, and
+-- the last of them the known one
+pub record GroupOf (who : Choice) (page : ℕ) (book text scratch entries : List ℕ) (w : Walk) (count next end refusal number : ℕ) (places scratch' entries' : List ℕ) : Type 0 where
+  pub next-is : NextGroup who book w.cursor.number w.cursor.place count next end
+  pub judged : (found : List ℕ) → w.index ≡ length found → w.spot.place ≡ place_before found
+      → judge (fold_on page) text found next-is.group ≡ record { refusal = refusal; number = number; places = found ++ places }
+  pub entered : entries' ≡ received_from (3 * w.index) entries (entries_of text places)
   pub emptied : scratch' ≡ replicate (length scratch) 0
+
+-- no cue of the next group has a fault
+pub record GroupedAll (who : Choice) (page : ℕ) (book text scratch entries : List ℕ) (w w' : Walk) (scratch' entries' : List ℕ) : Type 0 where
+  pub count : ℕ
+  pub places : List ℕ
+  pub group : GroupOf who page book text scratch entries w count w'.cursor.number w'.cursor.place 0 w'.index places scratch' entries'
+  pub whole : length places ≡ count
+  pub index : w'.index ≡ w.index + count
+  pub last : w'.spot.place ≡ last_of w.spot.place places
+  pub spot : w'.spot.at ≡ line_column text w'.spot.place
+  pub reads : w'.reads ≡ w.reads + length text
+
+-- one has
+pub record GroupedSome (who : Choice) (page : ℕ) (book text scratch entries : List ℕ) (w : Walk) (u : Unresolved) (scratch' entries' : List ℕ) : Type 0 where
+  pub count : ℕ
+  pub next : ℕ
+  pub end : ℕ
+  pub places : List ℕ
+  pub group : GroupOf who page book text scratch entries w count next end (number_of u.fault.refusal) u.fault.number places scratch' entries'
+  pub stopped : length places < count
+  pub reads : u.reads ≡ w.reads + length text
+
+abbrev pub Grouped : Choice → ℕ → List ℕ → List ℕ → List ℕ → List ℕ → Walk → Result Walk Unresolved → List ℕ → List ℕ → Type 0
+Grouped who page book text scratch entries w (Ok w') scratch' entries' = GroupedAll who page book text scratch entries w w' scratch' entries'
+Grouped who page book text scratch entries w (Err u) scratch' entries' = GroupedSome who page book text scratch entries w u scratch' entries'
 
 -- ---- all groups
 

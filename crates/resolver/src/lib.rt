@@ -4,15 +4,17 @@
 // and on `matching` for the laws of lent lists and of occurrences.
 #![tactic(auto)]
 
-ghost use Rattle.std.specs.Prelude.{◌≡◌, ◌+◌, ◌≤◌, length, get_or, set};
+ghost use Rattle.std.specs.Prelude.{◌≡◌, ◌+◌, ◌≤◌, length, set};
 ghost use Rattle.line_column.specs.LineColumn.{line_column};
-ghost use Rattle.resolver.specs.Resolver.{Resolved};
-ghost use Rattle.resolver.specs.Walking.{Remaining, NextRead, Gatherable, Gathered, Searchable, Searched, Put, Begun, Grouped, Ready, Placed};
+ghost use Rattle.resolver.specs.Resolver.{resolving, Resolved};
+ghost use Rattle.resolver.specs.Walking.{Remaining, NextRead, Gatherable, Gathered, Searchable, Searched, Puttable, Put, Begun, Grouped, Ready, Placed};
 
-use cues::{Choice, CueAnswer};
+use cue_fields::Span;
+use cues::Choice;
 use line_column::LineColumn;
+use matching::{Fault, Refusal};
 
-// What resolving gives back: a refusal or 0, its number, and how many letters of the text were read.
+// What resolving gives back, as C receives it: a refusal or 0, its number, and how many letters of the text were read.
 #[repr(C)]
 #[derive(Clone, Copy)]
 pub struct Resolving {
@@ -21,184 +23,202 @@ pub struct Resolving {
     pub reads: u32,
 }
 
+// The chosen cues are all resolved: how many they are, and how many letters of the text were read.
+#[derive(Clone, Copy)]
+struct AllPlaced {
+    cues: u32,
+    reads: u32,
+}
+
+// They are not: why, with the number that goes with it, and how many letters of the text were read.
+#[derive(Clone, Copy)]
+struct Unresolved {
+    fault: Fault,
+    reads: u32,
+}
+
+impl From<Result<AllPlaced, Unresolved>> for Resolving {
+    ghost from_gives = { λ told r. r ≡ resolving told };
+
+    fn from(told: Result<AllPlaced, Unresolved>) -> Resolving {
+        match told {
+            Ok(all) => Resolving {
+                refusal: 0,
+                number: all.cues,
+                reads: all.reads,
+            },
+            Err(not) => Resolving {
+                refusal: not.fault.refusal.into(),
+                number: not.fault.number,
+                reads: not.reads,
+            },
+        }
+    }
+}
+
+// A fault that is met before the text is read.
+impl From<Fault> for Unresolved {
+    ghost from_gives = { λ fault r. r ≡ record { fault = fault; reads = 0 } };
+
+    fn from(fault: Fault) -> Unresolved {
+        Unresolved { fault, reads: 0 }
+    }
+}
+
+impl From<Refusal> for Unresolved {
+    ghost from_gives = { λ refusal r. r ≡ record { fault = record { refusal = refusal; number = 0 }; reads = 0 } };
+
+    fn from(refusal: Refusal) -> Unresolved {
+        Unresolved {
+            fault: Fault { refusal, number: 0 },
+            reads: 0,
+        }
+    }
+}
+
+// What is resolved: for whom and for which day, by which page, the cues of which book, in which text, with its folded copy.
+#[derive(Clone, Copy)]
+struct Job<'a> {
+    choice: Choice,
+    page: u32,
+    book: &'a [u8],
+    text: &'a [u8],
+    copy: &'a [u8],
+}
+
+// Where the walk stands in the book: the number of the next cue that the role sees, and a place that no chosen cue stands between.
+#[derive(Clone, Copy)]
+struct Cursor {
+    number: usize,
+    place: usize,
+}
+
 // The next cue that is chosen: the number that names it, its phrase as the part of the book where it stands, its ordinal, and the place after it.
 #[derive(Clone, Copy)]
 struct NextCue {
     number: usize,
-    phrase: usize,
-    phrase_end: usize,
+    phrase: Span,
     ordinal: u32,
     end: usize,
 }
 
-// A group as it was read from the book: how many cues it has, the number of the next cue that the role sees, and the place after them.
+// A group as it was read from the book: how many cues it has, and where the walk stands after them.
 #[derive(Clone, Copy)]
 struct CuesRead {
     count: usize,
-    number: usize,
-    end: usize,
+    after: Cursor,
 }
 
-// A group whose cues were looked for: how many it has, the number of the next cue that the role sees, the place after them, and the letters of the text that were read.
+// A group whose cues were looked for: how many it has, where the walk stands after them, and the letters of the text that were read.
 #[derive(Clone, Copy)]
 struct GroupFound {
     count: usize,
-    number: usize,
-    end: usize,
+    after: Cursor,
     reads: usize,
 }
 
-// A group's entries as they were put: the first fault or 0, for how many cues they were put, and the last place with its line and column.
+// A place of the text, with its line and column.
 #[derive(Clone, Copy)]
-struct EntriesPut {
-    refusal: u32,
-    count: usize,
-    known: u32,
-    spot: LineColumn,
+struct Spot {
+    place: u32,
+    at: LineColumn,
 }
 
-// A group that was resolved: the number of the next cue that the role sees, the place after the group, the letters of the text that were read, the first fault or 0, the number of the cue with the fault, for how many
-// cues entries were put, and the last place with its line and column.
+// How far resolving has come: where the walk stands in the book, how many cues have their entries, the letters of the text that were read, and the spot of the last of these cues.
 #[derive(Clone, Copy)]
-struct GroupResolved {
-    next: usize,
-    end: usize,
+struct Walk {
+    cursor: Cursor,
+    index: usize,
     reads: usize,
-    refusal: u32,
-    number: u32,
-    put: usize,
-    known: u32,
-    spot: LineColumn,
-}
-
-// What reading on would give where no chosen cue were left.
-fn no_cue(number: usize, place: usize) -> NextCue
-    ensures { result.number ≡ number }
-{
-    NextCue {
-        number,
-        phrase: 0,
-        phrase_end: 0,
-        ordinal: 0,
-        end: place,
-    }
+    spot: Spot,
 }
 
 // Reads on from a place of the book to the next cue that the role sees and that plays on the day. There is one. The next cue that the role sees has that number, and the others count on from it; one that the
 // role does not see has none.
-fn next_cue(choice: Choice, book: &[u8], number: usize, place: usize) -> NextCue
-    requires { Remaining choice book.now number place }
-    ensures { NextRead choice book.now number place result }
+fn next_cue(choice: Choice, book: &[u8], cursor: Cursor) -> NextCue
+    requires { Remaining choice book.now cursor.number cursor.place }
+    ensures { NextRead choice book.now cursor.number cursor.place result }
 {
-    let mut index = number;
-    let mut at = place;
+    let mut index = cursor.number;
+    let mut at = cursor.place;
+    // a `while`, since each cue says where the next begins
     while at < book.len() {
-        let cue = cues::read_cue(book, at);
-        let CueAnswer::Cue {
-            phrase,
-            phrase_end,
-            ordinal,
-            title: _,
-            title_end: _,
-            days,
-            mark,
-            end,
-        } = cue
-        else {
+        let Ok(cue) = cues::read_cue(book, at) else {
             // the whole book was read before
-            return no_cue(number, place);
+            unreachable!()
         };
-        if cues::sees_mark(choice.role, mark) {
-            if cues::plays(days, choice.day) {
-                return NextCue {
-                    number: index,
-                    phrase,
-                    phrase_end,
-                    ordinal,
-                    end,
-                };
-            }
-            index += 1;
+        if cues::chosen(choice, cue.mark, cue.days) {
+            return NextCue {
+                number: index,
+                phrase: cue.phrase,
+                ordinal: cue.ordinal,
+                end: cue.end,
+            };
         }
-        at = end;
+        index += usize::from(cues::sees_mark(choice.role, cue.mark));
+        at = cue.end;
     }
     // and a chosen cue is left
-    no_cue(number, place)
+    unreachable!()
 }
 
-// Reads the next group from the book, at a place where the next cue that the role sees has that number, and so many chosen ones are left: where each phrase starts, its length, the cue's ordinal, and its number. A cue that
-// would be the 65th, or pass 4,096 phrase bytes, is left for the next group.
+// Reads the next group from the book, where so many chosen cues are left: where each phrase starts, its length, the cue's ordinal, and its number. A cue that would be the 65th, or pass 4,096 phrase bytes, is
+// left for the next group. The four stay arrays of numbers, since the automaton needs slices of them.
 fn gather(
     choice: Choice,
     book: &[u8],
-    number: usize,
+    cursor: Cursor,
     rest: usize,
-    place: usize,
     starts: &mut [usize],
     lens: &mut [usize],
     ordinals: &mut [u32],
     numbers: &mut [u32],
 ) -> CuesRead
-    requires { Gatherable choice book.now number rest place starts.old lens.old ordinals.old numbers.old }
-    ensures { Gathered choice book.now number place result starts.new lens.new ordinals.new numbers.new }
+    requires { Gatherable choice book.now cursor.number rest cursor.place starts.old lens.old ordinals.old numbers.old }
+    ensures { Gathered choice book.now cursor.number cursor.place result starts.new lens.new ordinals.new numbers.new }
 {
-    let mut count = 0;
     let mut letters = 0;
-    let mut next = number;
-    let mut end = place;
-    while count < rest {
-        let cue = next_cue(choice, book, next, end);
-        let len = cue.phrase_end - cue.phrase;
+    let mut after = cursor;
+    for count in 0..rest {
+        let cue = next_cue(choice, book, after);
+        let len = cue.phrase.end - cue.phrase.start;
         letters += len;
         if !outcome::group_fits(count + 1, letters) {
-            return CuesRead {
-                count,
-                number: next,
-                end,
-            };
+            return CuesRead { count, after };
         }
-        let index = cue.number as u32;
-        starts[count] = cue.phrase;
+        starts[count] = cue.phrase.start;
         lens[count] = len;
         ordinals[count] = cue.ordinal;
-        numbers[count] = index;
-        count += 1;
-        next = cue.number + 1;
-        end = cue.end;
+        numbers[count] = cue.number as u32;
+        after = Cursor {
+            number: cue.number + 1,
+            place: cue.end,
+        };
     }
-    CuesRead {
-        count,
-        number: next,
-        end,
-    }
+    CuesRead { count: rest, after }
 }
 
 // Looks for the next group's cues in the folded text, in one walk. For each cue it leaves how many occurrences are missing up to the one that it names, 0 where that one was found, its place, and its
 // number.
 fn find_group(
-    choice: Choice,
-    page: u32,
-    book: &[u8],
-    number: usize,
+    job: Job,
+    cursor: Cursor,
     rest: usize,
-    place: usize,
-    copy: &[u8],
     scratch: &mut [u16],
     left: &mut [u32],
     places: &mut [u32],
     numbers: &mut [u32],
 ) -> GroupFound
-    requires { Searchable choice page book.now number rest place copy.now scratch.old left.old places.old numbers.old }
-    ensures { Searched choice page book.now number place copy.now scratch.old result scratch.new left.new places.new numbers.new }
+    requires { Searchable job.choice job.page job.book.now cursor.number rest cursor.place job.copy.now scratch.old left.old places.old numbers.old }
+    ensures { Searched job.entry.choice job.entry.page job.entry.book.now cursor.number cursor.place job.entry.copy.now scratch.old result scratch.new left.new places.new numbers.new }
 {
     let mut starts = [0; 64];
     let mut lens = [0; 64];
     let cues = gather(
-        choice,
-        book,
-        number,
+        job.choice,
+        job.book,
+        cursor,
         rest,
-        place,
         &mut starts,
         &mut lens,
         left,
@@ -206,218 +226,186 @@ fn find_group(
     );
     let count = cues.count;
     let walked = automaton::locate(
-        page,
-        book,
+        job.page,
+        job.book,
         &starts[..count],
         &lens[..count],
-        copy,
+        job.copy,
         scratch,
         &mut left[..count],
         &mut places[..count],
     );
+    let Some(reads) = walked else {
+        // a group that was gathered is accepted
+        unreachable!()
+    };
     GroupFound {
         count,
-        number: cues.number,
-        end: cues.end,
-        reads: walked.reads,
+        after: cues.after,
+        reads,
     }
 }
 
-// The number of the cue after those for which entries were put, which has the fault; 0 where there is none.
-fn faulty_number(numbers: &[u32], put: usize) -> u32
-    ensures { result ≡ get_or numbers.now put 0 }
+// Puts a cue's three entries: place, line, column. Line and column are counted on from a known spot, and the cue's own is given back for the next cue.
+fn put_entries(entries: &mut [u32], at: usize, text: &[u8], place: u32, known: Spot) -> Spot
+    requires { (at ≤ 3000) × ((length text.now ≤ 32768) × (known.at ≡ line_column text.now known.place)) }
+    ensures spot { result ≡ record { place = place; at = line_column text.now place } }
+    ensures put { entries.new ≡ set (set (set entries.old at place) (at + 1) (line_column text.now place).line) (at + 2) (line_column text.now place).column }
 {
-    if numbers.len() <= put {
-        return 0;
-    }
-    numbers[put]
-}
-
-// Puts a cue's three entries: place, line, column. Line and column are counted on from those of a known place, and given back for the next cue.
-fn put_entries(
-    entries: &mut [u32],
-    at: usize,
-    text: &[u8],
-    place: u32,
-    known: u32,
-    told: LineColumn,
-) -> LineColumn
-    requires { (at ≤ 3000) × ((length text.now ≤ 32768) × (told ≡ line_column text.now known)) }
-    ensures { (result ≡ line_column text.now place) × (entries.new ≡ set (set (set entries.old at place) (at + 1) (line_column text.now place).line) (at + 2) (line_column text.now place).column) }
-{
-    let spot = line_column::line_column(
+    let here = line_column::line_column(
         text,
         place as usize,
-        known as usize,
-        told.line as u32,
-        told.column as u32,
+        known.place as usize,
+        known.at.line as u32,
+        known.at.column as u32,
     );
-    let line = spot.line as u32;
-    let column = spot.column as u32;
+    let line = here.line as u32;
+    let column = here.column as u32;
     matching::store(entries, at, place);
     matching::store(entries, at + 1, line);
     matching::store(entries, at + 2, column);
-    spot
+    Spot { place, at: here }
 }
 
-// Puts the entries of a group's cues, the first of them with that index, up to the first one with a fault: one with occurrences missing, or whose place is not above that of the cue before it.
+// Puts the entries of a group's cues, the first of them with that index, up to the first one with a fault: one with occurrences missing, or whose place is not above that of the cue before it. The last spot, or
+// the fault with that cue's number.
 fn put_group(
     entries: &mut [u32],
     index: usize,
     text: &[u8],
     left: &[u32],
     places: &[u32],
-    known: u32,
-    told: LineColumn,
-) -> EntriesPut
-    requires { (index + length left.now ≤ 999) × ((length left.now ≡ length places.now) × ((length text.now ≤ 32768) × (told ≡ line_column text.now known))) }
-    ensures { Put text.now index left.now places.now known entries.old result entries.new }
+    numbers: &[u32],
+    known: Spot,
+) -> Result<Spot, Fault>
+    requires { Puttable text.now index left.now places.now numbers.now known }
+    ensures { Put text.now index left.now places.now numbers.now known.place entries.old result entries.new }
 {
     let mut last = known;
-    let mut spot = told;
-    let mut count = 0;
-    while count < left.len() {
+    for count in 0..left.len() {
         let before = index + count;
         let place = places[count];
-        let refusal = outcome::cue_refused(left[count] == 0, before, last, place);
-        if refusal != 0 {
-            return EntriesPut {
-                refusal,
-                count,
-                known: last,
-                spot,
-            };
-        }
-        spot = put_entries(entries, 3 * before, text, place, last, spot);
-        last = place;
-        count += 1;
+        let number = numbers[count];
+        outcome::cue_refused(left[count] == 0, before, last.place, place).map_err(|refusal| Fault {
+            refusal,
+            number,
+        })?;
+        last = put_entries(entries, 3 * before, text, place, last);
     }
-    EntriesPut {
-        refusal: 0,
-        count,
-        known: last,
-        spot,
-    }
+    Ok(last)
 }
 
 // Resolves the next group, up to the first of its cues with a fault.
 fn resolve_group(
-    choice: Choice,
-    page: u32,
-    book: &[u8],
-    number: usize,
-    index: usize,
+    job: Job,
+    walk: Walk,
     rest: usize,
-    place: usize,
-    text: &[u8],
-    copy: &[u8],
     scratch: &mut [u16],
     entries: &mut [u32],
-    known: u32,
-    told: LineColumn,
-) -> GroupResolved
-    requires { Begun choice page book.now number index rest place text.now copy.now scratch.old known told }
-    ensures { Grouped choice page book.now number index place text.now scratch.old entries.old known result scratch.new entries.new }
+) -> Result<Walk, Unresolved>
+    requires { Begun job.choice job.page job.book.now rest job.text.now job.copy.now scratch.old walk }
+    ensures { Grouped job.entry.choice job.entry.page job.entry.book.now job.entry.text.now scratch.old entries.old walk result scratch.new entries.new }
 {
     let mut left = [0; 64];
     let mut places = [0; 64];
     let mut numbers = [0; 64];
     let group = find_group(
-        choice,
-        page,
-        book,
-        number,
+        job,
+        walk.cursor,
         rest,
-        place,
-        copy,
         scratch,
         &mut left,
         &mut places,
         &mut numbers,
     );
     let count = group.count;
-    let put = put_group(
+    let reads = walk.reads + group.reads;
+    let total = reads as u32;
+    let spot = put_group(
         entries,
-        index,
-        text,
+        walk.index,
+        job.text,
         &left[..count],
         &places[..count],
-        known,
-        told,
-    );
-    let faulty = faulty_number(&numbers[..count], put.count);
-    let spot = put.spot;
-    GroupResolved {
-        next: group.number,
-        end: group.end,
-        reads: group.reads,
-        refusal: put.refusal,
-        number: faulty,
-        put: put.count,
-        known: put.known,
+        &numbers[..count],
+        walk.spot,
+    )
+    .map_err(|fault| Unresolved {
+        fault,
+        reads: total,
+    })?;
+    Ok(Walk {
+        cursor: group.after,
+        index: walk.index + count,
+        reads,
         spot,
-    }
+    })
 }
 
 // Resolves group by group, reading the book's cues once more, up to the first cue with a fault. So many are chosen.
 fn resolve_groups(
+    job: Job,
+    cues: usize,
+    scratch: &mut [u16],
+    entries: &mut [u32],
+) -> Result<AllPlaced, Unresolved>
+    requires { Ready job.choice job.page job.book.now cues job.text.now job.copy.now scratch.old entries.old }
+    ensures { Placed job.entry.choice job.entry.page job.entry.book.now job.entry.text.now scratch.old entries.old (resolving result) scratch.new entries.new }
+{
+    let mut walk = Walk {
+        cursor: Cursor {
+            number: 0,
+            place: 0,
+        },
+        index: 0,
+        reads: 0,
+        spot: Spot {
+            place: 0,
+            at: LineColumn { line: 1, column: 1 },
+        },
+    };
+    // a `while`, since each group says how many cues it has
+    while walk.index < cues {
+        walk = resolve_group(job, walk, cues - walk.index, scratch, entries)?;
+    }
+    Ok(AllPlaced {
+        cues: walk.index as u32,
+        reads: walk.reads as u32,
+    })
+}
+
+// Resolves the cues that are chosen, as `resolve` does: the tests in their order, and then group by group.
+fn resolve_chosen(
     choice: Choice,
     page: u32,
     book: &[u8],
-    cues: usize,
     text: &[u8],
-    copy: &[u8],
+    copy: &mut [u8],
     scratch: &mut [u16],
     entries: &mut [u32],
-) -> Resolving
-    requires { Ready choice page book.now cues text.now copy.now scratch.old entries.old }
-    ensures { Placed choice page book.now text.now scratch.old entries.old result scratch.new entries.new }
+) -> Result<AllPlaced, Unresolved>
+    ensures { Resolved choice page book.now text.now copy.old scratch.old entries.old (resolving result) copy.new scratch.new entries.new }
 {
-    let mut number = 0;
-    let mut index = 0;
-    let mut place = 0;
-    let mut reads = 0;
-    let mut known = 0;
-    let mut spot = LineColumn { line: 1, column: 1 };
-    while index < cues {
-        let g = resolve_group(
-            choice,
-            page,
-            book,
-            number,
-            index,
-            cues - index,
-            place,
-            text,
-            copy,
-            scratch,
-            entries,
-            known,
-            spot,
-        );
-        let walked = reads + g.reads;
-        if g.refusal != 0 {
-            let total = walked as u32;
-            return Resolving {
-                refusal: g.refusal,
-                number: g.number,
-                reads: total,
-            };
-        }
-        index += g.put;
-        reads = walked;
-        number = g.next;
-        place = g.end;
-        known = g.known;
-        spot = g.spot;
+    let n = text.len();
+    outcome::refused(choice, page, n, copy.len(), scratch.len())?;
+    let cues = cue_book::read_chosen(book, choice)? as usize;
+    if entries.len() < 3 * cues {
+        return Err(Refusal::ShortEntries.into());
     }
-    let count = index as u32;
-    let total = reads as u32;
-    Resolving {
-        refusal: 0,
-        number: count,
-        reads: total,
+    fold::letters(page, text, copy)?;
+    if cues == 0 {
+        // no walk clears the scratch
+        tables::set_all(scratch, 0);
+        return Ok(AllPlaced { cues: 0, reads: 0 });
     }
+    let job = Job {
+        choice,
+        page,
+        book,
+        text,
+        copy: &copy[..n],
+    };
+    resolve_groups(job, cues, scratch, entries)
 }
 
 // Resolves the cues of a book that a role sees and that play on a day in a text, both folded by a page: 0 and the number of these cues, or the refusal and its number; and the letters that were read.
@@ -433,41 +421,14 @@ pub fn resolve(
 ) -> Resolving
     ensures { Resolved (record { role = role; day = day }) page book.now text.now copy.old scratch.old entries.old result copy.new scratch.new entries.new }
 {
-    let n = text.len();
-    let choice = Choice { role, day };
-    let refusal = outcome::refused(choice, page, n, copy.len(), scratch.len());
-    if refusal != 0 {
-        return Resolving {
-            refusal,
-            number: 0,
-            reads: 0,
-        };
-    }
-    let read = cue_book::read_chosen(book, choice);
-    if read.refusal != 0 {
-        return Resolving {
-            refusal: read.refusal,
-            number: read.number,
-            reads: 0,
-        };
-    }
-    let cues = read.number as usize;
-    if entries.len() < 3 * cues {
-        return Resolving {
-            refusal: 11,
-            number: 0,
-            reads: 0,
-        };
-    }
-    fold::letters(page, text, copy);
-    if cues == 0 {
-        // no walk clears the scratch
-        tables::set_all(scratch, 0);
-        return Resolving {
-            refusal: 0,
-            number: 0,
-            reads: 0,
-        };
-    }
-    resolve_groups(choice, page, book, cues, text, &copy[..n], scratch, entries)
+    resolve_chosen(
+        Choice { role, day },
+        page,
+        book,
+        text,
+        copy,
+        scratch,
+        entries,
+    )
+    .into()
 }
