@@ -8,11 +8,13 @@ use lib.ListN.{length, take, drop, length-append, length-drop}
 use lib.Seq.{length-take-le}
 use lib.Dec.{eqb, ltb}
 use borrow.Author.Tests.{lt-ltb, le-ltb, ltb-false, eqb-true, eqb-false, not-false}
+use Rattle.matching.specs.declared.refusal.Refusal.{Refusal}
 use Rattle.matching.specs.Refusals.{first_met}
+use Rattle.matching.specs.Results.{number_of}
 use Rattle.matching.specs.Find.{find_tests, refusal}
 use Rattle.matching.proofs.CaseAnalysis.{by-test, both, neither}
 use Rattle.matching.proofs.Refusals.{Passed, met-before, met-after, numbers_to, all-passed}
-use Rattle.matching.proofs.Find.{within}
+use Rattle.matching.proofs.Find.{within, number-some}
 use Rattle.cuts.specs.Cuts.{Cut, new_text, rises, all_fit, cut_tests, relist_refusal}
 
 -- the new text's length
@@ -40,6 +42,9 @@ module _ (P T list : List ℕ) (c : Cut) where
   pub refused-first : (first ≡ 0 → ⊥) → relist_refusal P T list c ≡ first
   unfolding relist_refusal refusal
   refused-first some = met-before (find_tests (length P) (length T) 0 0) (cut_tests P T list c) some
+
+  pub refused_err : (r : Refusal) → number_of r ≡ first → number_of r ≡ relist_refusal P T list c
+  refused_err r is = is ∙ sym (refused-first (λ z. omega (arith, number-some r)))
 
   -- where there is none, the cut's rows decide
   cut-decides : first ≡ 0 → relist_refusal P T list c ≡ first_met (cut_tests P T list c)
@@ -97,3 +102,6 @@ module _ (P T list : List ℕ) (c : Cut) where
         fits = good.1;
         new = ltb-false 32768 (length (new_text T c)) p.1.1.0;
       }
+
+-- by these each return of `refused` is the row that it says
+pub ruleset rows = (refused_err, refused-order, refused-past, refused-list, refused-new, refused-not)

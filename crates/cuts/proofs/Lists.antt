@@ -7,7 +7,7 @@ use mathlib.Core.Bool.{Bool, true, false, cond, ◌&&◌}
 use mathlib.Core.Logic.{⊎_elim}
 use mathlib.Core.List.Memᴰ
 use mathlib.Core.List.{List, [], ◌∷◌, Memᴰ}
-use lib.ListN.{length, get_or, drop}
+use lib.ListN.{length, get_or, drop, drop_of_length-le}
 use lib.Seq.{drop-cons}
 use lib.Dec.{leb}
 use borrow.Author.Tests.{le-leb, lt-leb, leb-true}
@@ -26,22 +26,30 @@ next_place ks i h = drop-cons ks i 0 h ∙ rw (add-one i)
 abbrev pub accepted_from : ℕ → ℕ → ℕ → List ℕ → Bool
 accepted_from m n low ks = rises_from low ks && all_fit m n ks
 
-pub accepted-none : (m n low : ℕ) → accepted_from m n low [] ≡ true
-unfolding rises_from all_fit
-accepted-none m n low = refl
-
-module _ (m n low k : ℕ) (ks : List ℕ) where
-  pub accepted-falls : k < low → accepted_from m n low (k ∷ ks) ≡ false
-  unfolding rises_from
-  accepted-falls h = rw (lt-leb low k h)
-
-  pub accepted-passes : n < k + m → accepted_from m n low (k ∷ ks) ≡ false
-  unfolding all_fit
-  accepted-passes h = rw (lt-leb (k + m) n h) (by-test (λ t. t && false ≡ false) (rises_from low (k ∷ ks)) (λ _. refl) (λ _. refl))
-
-  pub accepted-next : {next : ℕ} → low ≤ k → k + m ≤ n → next ≡ k + 1 → accepted_from m n low (k ∷ ks) ≡ accepted_from m n next ks
+module _ (m n low : ℕ) (ks : List ℕ) (i : ℕ) where
+  -- after the last place
+  pub accepted_over : length ks ≤ i → accepted_from m n low (drop i ks) ≡ true
   unfolding rises_from all_fit
-  accepted-next h l e = rw (le-leb low k h, le-leb (k + m) n l, e, add-one k)
+  accepted_over h = rw (drop_of_length-le ks h)
+
+  -- a place that does not rise, one at which the phrase does not fit, and any other
+  module _ (h : i < length ks) where
+    pub accepted_falls : get_or ks i 0 < low → accepted_from m n low (drop i ks) ≡ false
+    unfolding rises_from
+    accepted_falls l = rw (next_place ks i h, lt-leb low (get_or ks i 0) l)
+
+    pub accepted_passes : n < get_or ks i 0 + m → accepted_from m n low (drop i ks) ≡ false
+    unfolding all_fit
+    accepted_passes l =
+        rw (next_place ks i h, lt-leb (get_or ks i 0 + m) n l)
+        (by-test (λ t. t && false ≡ false) (rises_from low (get_or ks i 0 ∷ drop (i + 1) ks)) (λ _. refl) (λ _. refl))
+
+    pub accepted_next : low ≤ get_or ks i 0 → get_or ks i 0 + m ≤ n → accepted_from m n low (drop i ks) ≡ accepted_from m n (get_or ks i 0 + 1) (drop (i + 1) ks)
+    unfolding rises_from all_fit
+    accepted_next l f = rw (next_place ks i h, le-leb low (get_or ks i 0) l, le-leb (get_or ks i 0 + m) n f, add-one (get_or ks i 0))
+
+-- by these `accepted` goes through a list
+pub ruleset place_by_place = (accepted_over, accepted_falls, accepted_passes, accepted_next)
 
 -- the phrase fits the text at each place, and back
 pub fit-member : (m n : ℕ) (ks : List ℕ) → all_fit m n ks ≡ true → (k : ℕ) → Memᴰ k ks → k + m ≤ n

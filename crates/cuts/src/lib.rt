@@ -4,30 +4,31 @@
 #![tactic(auto)]
 
 ghost use Rattle.std.specs.Prelude.{◌≡◌, ◌&&◌, ◌≤◌};
+ghost use Rattle.matching.specs.Results.{refused_by};
 ghost use Rattle.cuts.specs.Cuts.{cut, rises, all_fit, relist_refusal};
 
+use matching::Refusal;
+
 // Whether a list strictly rises and the phrase, of m letters, stays within the n letters of the text at each place.
+#[tactic(auto, using(crate::proofs::Lists::place_by_place))]
 fn accepted(list: &[u32], m: usize, n: usize) -> bool
     requires { m ≤ 1024 }
     ensures { result ≡ rises list.now && all_fit m n list.now }
 {
     let mut low = 0;
-    let mut i = 0;
-    while i < list.len() {
-        let place = list[i] as usize;
-        if place < low {
-            return false;
-        }
-        if n < place + m {
+    for place in list {
+        let place = *place as usize;
+        if place < low || n < place + m {
             return false;
         }
         low = place + 1;
-        i += 1;
     }
     true
 }
 
-// The refusal of a call, 0 for none.
+// The tests of a call, in their order.
+// A cut stays three parameters: they are those of the public `late_cuts::relist`, which may not change.
+#[tactic(auto, using(crate::proofs::Calls::rows))]
 pub fn refused(
     phrase: &[u8],
     text: &[u8],
@@ -35,27 +36,20 @@ pub fn refused(
     start: usize,
     end: usize,
     letters: &[u8],
-) -> u32
-    ensures { result ≡ relist_refusal phrase.now text.now list.now (cut start end letters.now) }
+) -> Result<(), Refusal>
+    ensures { refused_by result ≡ relist_refusal phrase.now text.now list.now (cut start end letters.now) }
 {
     let m = phrase.len();
     let n = text.len();
-    let refusal = matching::refused(m, n, 0, 0);
-    if refusal != 0 {
-        return refusal;
+    matching::refused(m, n, 0, 0)?;
+    if end < start || n < end {
+        return Err(Refusal::BadStretch);
     }
-    if end < start {
-        return 17;
-    }
-    if n < end {
-        return 17;
-    }
-    let good = accepted(list, m, n);
-    if !good {
-        return 18;
+    if !accepted(list, m, n) {
+        return Err(Refusal::BadList);
     }
     if 32768 < start + letters.len() + (n - end) {
-        return 4;
+        return Err(Refusal::LongText);
     }
-    0
+    Ok(())
 }

@@ -1,11 +1,11 @@
 -- What a call gives and leaves, by its refusal, and back. Assumes nothing.
 use mathlib.Core.Path.{◌≡◌, sym, ap, ◌∙◌}
 use Prim.Native.Nat.{ℕ}
-use mathlib.Core.Bool.{true, false}
+use mathlib.Core.Bool.{true}
 use mathlib.Core.List.{List}
 use lib.ListN.{length}
 use lib.Dec.{eqb}
-use borrow.Author.Tests.{eqb-true, eq-eqb, ne_eqb}
+use borrow.Author.Tests.{eqb-true, eq-eqb}
 use Rattle.matching.specs.declared.Answer.{Answer}
 use Rattle.matching.specs.Received.{received}
 use Rattle.matching.proofs.CaseAnalysis.{by-test}
@@ -13,12 +13,7 @@ use Rattle.cuts.specs.Cuts.{Cut, relist_refusal}
 use Rattle.late_cuts.specs.LateCuts.{relisted, Relisted}
 
 module _ (P T list : List ℕ) (c : Cut) where
-  -- what a call gives and leaves, refused and not
-  pub relisted-refused : (lent : List ℕ) {number : ℕ} → number ≡ relist_refusal P T list c → (number ≡ 0 → ⊥) → Relisted P T list c lent (record { refusal = number; number = 0 }) lent
-  relisted-refused lent is some =
-      let off : eqb (relist_refusal P T list c) 0 ≡ false = ne_eqb (relist_refusal P T list c) 0 (λ z. some (is ∙ z)) in
-      record { answer = rw (off, is); listed = rw off }
-
+  -- what a call gives and leaves that is not refused
   pub relisted-taken : (lent : List ℕ) {number total : ℕ} {lent' : List ℕ} → number ≡ relist_refusal P T list c → number ≡ 0 → total ≡ length (relisted P T list c) → lent' ≡ received lent (relisted P T list c)
       → Relisted P T list c lent (record { refusal = 0; number = total }) lent'
   relisted-taken lent met none counted is =

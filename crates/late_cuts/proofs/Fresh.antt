@@ -1,9 +1,9 @@
 -- The fresh places: what a find in a part of the new text leaves, and the letters around the stretch in parts. Assumes nothing.
-use mathlib.Core.Path.{◌≡◌, refl, sym, ap, ap₂, ◌∙◌}
-use Prim.Native.Nat.{ℕ, ◌+◌, ◌-◌, ◌≤◌, ◌<◌, min}
+use mathlib.Core.Path.{◌≡◌, refl, sym, ap, ap₂, subst, ◌∙◌}
+use Prim.Native.Nat.{ℕ, suc, ◌+◌, ◌-◌, ◌≤◌, ◌<◌, min}
 use native.Mathlib.Omega.{arith}
 use mathlib.Core.List.{List, [], ◌∷◌, ◌++◌, append-nil, append_assoc, map-append}
-use lib.ListN.{length, take, drop, length-append, length-map, length-take, length-drop, drop_of_length-le}
+use lib.ListN.{length, take, drop, length-append, length-map, length-drop, drop_of_length-le}
 use lib.Seq.{length-take-le, take_all, take_at, take-append-le}
 use lib.Dec.{leb}
 use borrow.Author.Tests.{leb-true, leb-false}
@@ -14,10 +14,9 @@ use Rattle.matching.specs.Received.{received, received_from}
 use Rattle.matching.specs.Find.{refusal, Found}
 use Rattle.matching.specs.Joined.{last_of, moved_up}
 use Rattle.matching.proofs.CaseAnalysis.{by-test}
-use Rattle.matching.proofs.Occurrences.{occurrences-below, occurrences-none}
+use Rattle.matching.proofs.Occurrences.{occurrences-below, occurrences-few, occurrences-none}
 use Rattle.matching.proofs.Ranges.{moved_none}
 use Rattle.matching.proofs.Around.{occurrences-around}
-use Rattle.matching.proofs.Received.{received-on}
 use Rattle.matching.proofs.Parts.{from, from_is, part-is}
 use Rattle.matching.proofs.Find.{within, none-refused, found-answer, found-listed}
 use Rattle.naive.specs.Naive.{naive}
@@ -25,41 +24,46 @@ use Rattle.pieces.specs.Pieces.{joined, put, Laid}
 use Rattle.pieces.proofs.Laid.{laid_one, laid_cons, laid-front}
 use Rattle.cuts.specs.Cuts.{cut}
 use Rattle.late_cuts.specs.LateCuts.{fresh}
-use Rattle.late_cuts.specs.Asked.{Small}
-use Rattle.late_cuts.proofs.Lists.{received-added, received-most}
+use Rattle.late_cuts.specs.declared.Listing.{Listing}
+use Rattle.late_cuts.specs.Asked.{Small, Puts}
+use Rattle.late_cuts.proofs.Lists.{received-added, received-most, puts_then}
 
 -- ---- a find in a part
 
--- a find that needs no scratch is not refused for it
-pub no-scratch : (m n has : ℕ) → refusal m n 0 0 ≡ 0 → refusal m n has 0 ≡ 0
-no-scratch m n has none =
-    let w = within m n 0 0 none in
-    none-refused m n has 0 (record { some = w.some; short = w.short; small = w.small; room = omega arith })
+-- a find of so many letters that needs no scratch is not refused
+pub not_refused : (m n : ℕ) → 1 ≤ m → m ≤ 1024 → n ≤ 32768 → refusal m n 0 0 ≡ 0
+not_refused m n some short small = none-refused m n 0 0 (record { some = some; short = short; small = small; room = omega arith })
 
-module _ {P T scratch list : List ℕ} {r : Finding} {scratch' list' : List ℕ} (f : Found naive P T scratch list r scratch' list') (none : refusal (length P) (length T) 0 0 ≡ 0) where
-  pub part-total : r.total ≡ length (occurrences P T)
-  part-total = ap (λ (x : Finding). x.total) (found-answer f (no-scratch (length P) (length T) (length scratch) none))
-
-  listed : list' ≡ received list (occurrences P T)
-  listed = found-listed f (no-scratch (length P) (length T) (length scratch) none)
+module _ {P T list : List ℕ} {r : Finding} {scratch' list' : List ℕ} (f : Found naive P T [] list r scratch' list') (none : refusal (length P) (length T) 0 0 ≡ 0) where
+  total : r.total ≡ length (occurrences P T)
+  total = ap (λ (x : Finding). x.total) (found-answer f none)
 
   -- the places are small enough to be moved
   pub part_small : Small r.total list'
   part_small =
       record {
-        small = λ i h. rw listed (received-most 32768 list (occurrences P T) (λ j l. omega (arith, occurrences-below P T j l, (within (length P) (length T) 0 0 none).small)) i (omega (arith, part-total)));
+        small = λ i h.
+            rw (found-listed f none)
+            (received-most 32768 list (occurrences P T) (λ j l. omega (arith, occurrences-below P T j l, (within (length P) (length T) 0 0 none).small)) i (omega (arith, total)));
       }
 
   -- and moved, they are what the list received
   pub part_moved : (place : ℕ) {list'' : List ℕ} → list'' ≡ moved_up place (take r.total list') ++ drop r.total list' → list'' ≡ received list (moved_up place (occurrences P T))
   part_moved place is =
-      is ∙ ap₂ (λ (n : ℕ) (l : List ℕ). moved_up place (take n l) ++ drop n l) part-total listed ∙ received-added place list (occurrences P T)
+      is ∙ ap₂ (λ (n : ℕ) (l : List ℕ). moved_up place (take n l) ++ drop n l) total (found-listed f none) ∙ received-added place list (occurrences P T)
+
+  pub part_total : (place : ℕ) → r.total ≡ length (moved_up place (occurrences P T))
+  part_total place = total ∙ sym (length-map (occurrences P T) (λ (k : ℕ). k + place))
+
+-- there are no more places than letters, and one
+pub puts_few : (place : ℕ) (P T : List ℕ) {a b : Listing} → Puts a (moved_up place (occurrences P T)) b → b.total ≤ a.total + suc (length T)
+puts_few place P T p = omega (arith, p.total, length-map (occurrences P T) (λ (k : ℕ). k + place), occurrences-few P T)
 
 -- ---- a list that is lent from an entry on
 
-pub lent-from : (total from : ℕ) (list values part : List ℕ) → from ≡ min total (length list) → part ≡ received (mid_of from (length list - from) list) values
+pub lent-from : (total from : ℕ) (list values : List ℕ) {part : List ℕ} → from ≡ min total (length list) → part ≡ received (mid_of from (length list - from) list) values
     → put_mid from (length list - from) list part ≡ received_from total list values
-lent-from total from list values part least is =
+lent-from total from list values {part} least is =
     let none : drop (length list) list ≡ [] = drop_of_length-le list {i = length list} (omega arith) in
     let rest : put_mid from (length list - from) list part ≡ received_from from list values =
     ap (λ (l : List ℕ). take from list ++ l)
@@ -72,19 +76,13 @@ lent-from total from list values part least is =
     rest
     ∙ ap₂ (λ (a b : List ℕ). a ++ received b values) (take_all from list enough ∙ sym (take_all total list (omega arith))) (drop_of_length-le list enough ∙ sym (drop_of_length-le list {i = total} (omega arith))))
 
--- a find in a part that is made of others
-pub same-found : (P : List ℕ) (place total : ℕ) (answer : List ℕ) {part whole answer' : List ℕ} {r : ℕ} → part ≡ whole → answer' ≡ received_from total answer (moved_up place (occurrences P part))
-    → r ≡ total + length (occurrences P part) → (answer' ≡ received_from total answer (moved_up place (occurrences P whole))) × (r ≡ total + length (occurrences P whole))
-same-found P place total answer same is counted =
-    (is ∙ ap (λ (l : List ℕ). received_from total answer (moved_up place (occurrences P l))) same, counted ∙ ap (λ (l : List ℕ). total + length (occurrences P l)) same)
-
 -- ---- three pieces laid out
 
+-- a buffer that is long enough holds them at its front
 pub record Three (before letters after buffer : List ℕ) (size : ℕ) : Type 0 where
-  pub inside : size ≤ length buffer
+  pub inside : size ≡ length (take size buffer)
   pub all : take size buffer ≡ before ++ letters ++ after
 
--- a buffer that is long enough holds them at its front
 pub laid-three : (buffer₀ before letters after : List ℕ) {buffer₁ buffer₂ buffer₃ : List ℕ} {one two three : ℕ} → length before + length letters + length after ≤ length buffer₀
     → Laid buffer₁ one (put buffer₀ 0 before) → Laid buffer₂ two (put buffer₁ one letters) → Laid buffer₃ three (put buffer₂ two after) → Three before letters after buffer₃ three
 unfolding joined
@@ -93,11 +91,8 @@ laid-three buffer₀ before letters after {buffer₁} {buffer₂} {buffer₃} {o
     let together : joined pieces ≡ before ++ letters ++ after = ap (λ (l : List ℕ). before ++ (letters ++ l)) (append-nil after) ∙ sym (append_assoc before letters after) in
     let size : length (joined pieces) ≡ length before + length letters + length after = ap length together ∙ length-append (before ++ letters) after ∙ ap (λ (n : ℕ). n + length after) (length-append before letters) in
     let front = laid-front pieces buffer₀ (omega arith) (laid_cons buffer₀ 0 before (letters ∷ after ∷ []) l₁ (laid_cons buffer₁ one letters (after ∷ []) l₂ (laid_one buffer₂ two after l₃))) in
-    let rest : List ℕ = drop (length (joined pieces)) buffer₀ in
-    record {
-      inside = omega (arith, front.0, ap length front.1, length-append (joined pieces) rest);
-      all = ap (λ (l : List ℕ). take three l) front.1 ∙ take_at (joined pieces) rest three (sym front.0) ∙ together;
-    }
+    let all : take three buffer₃ ≡ joined pieces = ap (λ (l : List ℕ). take three l) front.1 ∙ take_at (joined pieces) (drop (length (joined pieces)) buffer₀) three (sym front.0) in
+    record { inside = front.0 ∙ sym (ap length all); all = all ∙ together }
 
 -- ---- places moved up twice
 
@@ -143,109 +138,49 @@ module _ (P before letters after : List ℕ) (some : 1 ≤ length P) (fore : len
       ∙ sym (append_assoc first (moved_up (length before) (occurrences P letters)) _))
 
   -- three finds, one behind another
-  module _ (place total : ℕ) (answer : List ℕ) where
+  module _ (place : ℕ) where
     abbrev tail : ℕ
     tail = length letters - side
 
-    abbrev front : List ℕ
-    front = moved_up place first
-
-    abbrev middle : List ℕ
-    middle = moved_up (place + length before) (occurrences P letters)
-
-    abbrev end : List ℕ
-    end = moved_up (place + length before + tail) last
-
-    parts : front ++ middle ++ end ≡ moved_up place (occurrences P (before ++ letters ++ after))
+    parts : moved_up place first ++ moved_up (place + length before) (occurrences P letters) ++ moved_up (place + length before + tail) last ≡ moved_up place (occurrences P (before ++ letters ++ after))
     parts =
         let up : ℕ → ℕ = λ k. k + place in
         let there : place + (length before + tail) ≡ place + length before + tail = omega arith in
         sym
         (ap (moved_up place) long-around ∙ map-append up (first ++ moved_up (length before) (occurrences P letters)) (moved_up (length before + tail) last)
         ∙ ap₂ (λ (a b : List ℕ). a ++ b)
-        (map-append up first (moved_up (length before) (occurrences P letters)) ∙ ap (λ (l : List ℕ). front ++ l) (moved_twice (length before) place (occurrences P letters)))
+        (map-append up first (moved_up (length before) (occurrences P letters)) ∙ ap (λ (l : List ℕ). moved_up place first ++ l) (moved_twice (length before) place (occurrences P letters)))
         (moved_twice (length before + tail) place last ∙ ap (λ (n : ℕ). moved_up n last) there))
 
-    pub three-found : {one two three : ℕ} {answer₁ answer₂ answer₃ : List ℕ} → answer₁ ≡ received_from total answer front → one ≡ total + length first
-        → answer₂ ≡ received_from one answer₁ middle → two ≡ one + length (occurrences P letters)
-        → answer₃ ≡ received_from two answer₂ (moved_up (place + length before + tail) (occurrences P (from letters tail ++ [] ++ after)))
-        → three ≡ two + length (occurrences P (from letters tail ++ [] ++ after))
-        → (answer₃ ≡ received_from total answer (moved_up place (occurrences P (before ++ letters ++ after)))) × (three ≡ total + length (occurrences P (before ++ letters ++ after)))
-    three-found {one} {two} {three} {answer₁} {answer₂} {answer₃} a₁ n₁ a₂ n₂ a₃ n₃ =
-        let last-is : occurrences P (from letters tail ++ [] ++ after) ≡ last = ap (λ (l : List ℕ). occurrences P (l ++ [] ++ after)) (from_is letters tail) in
-        let size₁ : length front ≡ length first = length-map first (λ (k : ℕ). k + place) in
-        let size₂ : length middle ≡ length (occurrences P letters) = length-map (occurrences P letters) (λ (k : ℕ). k + (place + length before)) in
-        let size₃ : length end ≡ length last = length-map last (λ (k : ℕ). k + (place + length before + tail)) in
-        let size : length (moved_up place (occurrences P (before ++ letters ++ after))) ≡ length (occurrences P (before ++ letters ++ after)) =
-        length-map (occurrences P (before ++ letters ++ after)) (λ (k : ℕ). k + place) in
-        let two-lists : answer₂ ≡ received_from total answer (front ++ middle) =
-        a₂ ∙ ap (λ (l : List ℕ). received_from one l middle) a₁ ∙ received-on total one answer front middle (omega arith) in (
-          a₃ ∙ ap₂ (λ (l m : List ℕ). received_from two l (moved_up (place + length before + tail) m)) two-lists last-is
-              ∙ received-on total two answer (front ++ middle) end (omega (arith, length-append front middle)) ∙ ap (received_from total answer) parts,
-          omega (arith, n₁, n₂, n₃, ap length last-is, size₁, size₂, size₃, size, ap length parts, length-append (front ++ middle) end, length-append front middle),
-        )
+    pub three-found : {a b c d : Listing} {fore aft : List ℕ} → fore ≡ before ++ [] ++ take side letters → aft ≡ from letters tail ++ [] ++ after
+        → Puts a (moved_up place (occurrences P fore)) b → Puts b (moved_up (place + length before) (occurrences P letters)) c
+        → Puts c (moved_up (place + length before + tail) (occurrences P aft)) d → Puts a (moved_up place (occurrences P (before ++ letters ++ after))) d
+    three-found {a} {d = d} fore-is aft-is p q r =
+        let last-is = aft-is ∙ ap (λ (l : List ℕ). l ++ [] ++ after) (from_is letters tail) in
+        subst (λ (l : List ℕ). Puts a l d) parts (puts_then (puts_then (rw fore-is at p) q) (rw last-is at r))
 
 -- ---- the two sides of the stretch
 
-module _ (T : List ℕ) (start end side from to : ℕ) (ordered : start ≤ end) (inside : end ≤ length T) (before : from ≡ start - min side start) (after : to ≡ end + min side (length T - end)) where
-  -- where the letters before it begin
-  side-from : from ≡ start - side
-  side-from = omega arith
+pub are_fresh : (P T letters : List ℕ) (start end from to : ℕ) → start ≤ end → end ≤ length T → from ≡ start - (length P - 1) → to ≡ min (length T) (end + (length P - 1))
+    → fresh P T (cut start end letters) ≡ moved_up from (occurrences P (take (start - from) (drop from T) ++ letters ++ take (to - end) (drop end T)))
+are_fresh P T letters start end from to ordered inside before after =
+    ap₂ (λ (n : ℕ) (l : List ℕ). moved_up n (occurrences P l)) (sym before) (ap₂ (λ (a b : List ℕ). a ++ letters ++ b) (sym fore) (sym aft))
+  where
+    side : ℕ
+    side = length P - 1
 
-  side_before : take (start - from) (drop from T) ≡ last_of side (take start T)
-  side_before =
-      let size : from ≡ length (take start T) - side = omega (arith, length-take-le start T (omega arith)) in
-      part-is from start T ∙ ap (λ (n : ℕ). drop n (take start T)) size
+    fore : take (start - from) (drop from T) ≡ last_of side (take start T)
+    fore =
+        let size : from ≡ length (take start T) - side = omega (arith, length-take-le start T (omega arith)) in
+        part-is from start T ∙ ap (λ (n : ℕ). drop n (take start T)) size
 
-  side_after : take (to - end) (drop end T) ≡ take side (drop end T)
-  side_after =
-      by-test (λ _. take (to - end) (drop end T) ≡ take side (drop end T)) (leb side (length T - end))
-      (λ t.
-      let h : side ≤ length T - end = leb-true side (length T - end) t in
-      let all : to - end ≡ side = omega arith in
-      ap (λ (n : ℕ). take n (drop end T)) all)
-      (λ t.
-      let h : length T - end < side = leb-false side (length T - end) t in
-      take_all (to - end) (drop end T) (omega (arith, length-drop end T)) ∙ sym (take_all side (drop end T) (omega (arith, length-drop end T))))
-
-  -- their lengths
-  length_before : length (take (start - from) (drop from T)) ≡ start - from
-  length_before = length-take-le (start - from) (drop from T) (omega (arith, length-drop from T))
-
-  length-after : length (take (to - end) (drop end T)) ≤ side
-  length-after = omega (arith, length-take (to - end) (drop end T))
-
--- what is asked of the two sides, and what is found in them with the new letters between
-pub record Sides (P T letters : List ℕ) (start end from to : ℕ) : Type 0 where
-  pub fore-short : length (take (start - from) (drop from T)) < length P
-  pub aft-short : length (take (to - end) (drop end T)) < length P
-  pub reach : from + length (take (start - from) (drop from T)) ≡ start
-  pub are-fresh : moved_up from (occurrences P (take (start - from) (drop from T) ++ letters ++ take (to - end) (drop end T))) ≡ fresh P T (cut start end letters)
-
-pub sides : (P T letters : List ℕ) (start end from to : ℕ) → 1 ≤ length P → start ≤ end → end ≤ length T → from ≡ start - min (length P - 1) start
-    → to ≡ end + min (length P - 1) (length T - end) → Sides P T letters start end from to
-sides P T letters start end from to some ordered inside before after =
-    let side = length P - 1 in
-    let size : length (take (start - from) (drop from T)) ≡ start - from = length_before T start end side from to ordered inside before after in
-    record {
-      fore-short = omega (arith, size, before, some);
-      aft-short = omega (arith, length-after T start end side from to ordered inside before after, some);
-      reach = omega (arith, size, before);
-      are-fresh =
-          ap₂ (λ (n : ℕ) (l : List ℕ). moved_up n (occurrences P l)) (side-from T start end side from to ordered inside before after)
-          (ap₂ (λ (a b : List ℕ). a ++ letters ++ b) (side_before T start end side from to ordered inside before after) (side_after T start end side from to ordered inside before after));
-    }
-
-module _ {P T letters : List ℕ} {start end from to : ℕ} (s : Sides P T letters start end from to) where
-  abbrev all : List ℕ
-  all = take (start - from) (drop from T) ++ letters ++ take (to - end) (drop end T)
-
-  pub sides-reach : start + length letters ≤ 32768 → from + length (take (start - from) (drop from T)) + length letters ≤ 32768
-  sides-reach h = omega (arith, h, s.reach)
-
-  pub fresh-found : (answer : List ℕ) (total : ℕ) {answer' : List ℕ} {r : ℕ} → answer' ≡ received_from total answer (moved_up from (occurrences P all)) → r ≡ total + length (occurrences P all)
-      → (answer' ≡ received_from total answer (fresh P T (cut start end letters))) × (r ≡ total + length (fresh P T (cut start end letters)))
-  fresh-found answer total is counted = (
-    is ∙ ap (received_from total answer) s.are-fresh,
-    counted ∙ ap (λ (n : ℕ). total + n) (sym (length-map (occurrences P all) (λ (k : ℕ). k + from)) ∙ ap length s.are-fresh),
-  )
+    aft : take (to - end) (drop end T) ≡ take side (drop end T)
+    aft =
+        by-test (λ _. take (to - end) (drop end T) ≡ take side (drop end T)) (leb side (length T - end))
+        (λ t.
+        let h : side ≤ length T - end = leb-true side (length T - end) t in
+        let all : to - end ≡ side = omega arith in
+        ap (λ (n : ℕ). take n (drop end T)) all)
+        (λ t.
+        let h : length T - end < side = leb-false side (length T - end) t in
+        take_all (to - end) (drop end T) (omega (arith, length-drop end T)) ∙ sym (take_all side (drop end T) (omega (arith, length-drop end T))))

@@ -1,28 +1,23 @@
 -- A call that is not refused: no number in it overflows, and those that stay, the fresh ones and those moved, put one behind another, are the new list. Assumes nothing.
-use mathlib.Core.Path.{◌≡◌, ap, ap₂, ◌∙◌}
-use Prim.Native.Nat.{ℕ, ◌+◌, ◌-◌, ◌≤◌}
+use mathlib.Core.Path.{◌≡◌, ap, ◌∙◌}
+use Prim.Native.Nat.{ℕ, ◌+◌, ◌-◌, ◌≤◌, ◌<◌}
 use native.Mathlib.Omega.{arith}
 use mathlib.Core.List.{List, ◌++◌, map}
+use Rattle.std.proofs.lemmas.List.{get_or-drop}
 use lib.ListN.{length, get_or, take, drop, length-append, length-map, length-take, length-drop}
-use lib.IntN.{ℤ}
-use mir.Syntax.{w32}
-use mir.Val.{to_z, of_z}
-use mir.ValLaws.{to_z-of_z}
 use Rattle.matching.specs.Occurrences.{occurrences}
 use Rattle.matching.specs.Received.{received, received_from}
-use Rattle.matching.specs.Find.{refusal}
 use Rattle.matching.specs.Joined.{those, last_of}
 use Rattle.matching.proofs.Occurrences.{occurrences-few, member}
 use Rattle.matching.proofs.Those.{those-few}
-use Rattle.matching.proofs.Received.{received-on}
-use Rattle.matching.proofs.Find.{none-refused}
+use Rattle.matching.proofs.Parts.{from, from_is}
 use Rattle.cuts.specs.Cuts.{Cut}
 use Rattle.cuts.proofs.Lists.{rises-few, fit-member}
 use Rattle.cuts.proofs.Calls.{Taken, length-new}
 use Rattle.late_cuts.specs.LateCuts.{stays, moves, change, moved_by, around, fresh, relisted}
-use Rattle.late_cuts.specs.Asked.{Movable}
-use Rattle.late_cuts.proofs.Lists.{moves-later}
-use Rattle.late_cuts.proofs.Signed.{difference-small, moves_so}
+use Rattle.late_cuts.specs.declared.Listing.{Listing}
+use Rattle.late_cuts.specs.Asked.{Small, Puts}
+use Rattle.late_cuts.proofs.Lists.{moves-later, puts_then}
 
 module _ {P T list : List ℕ} {c : Cut} (k : Taken P T list c) where
   -- the new letters lie within the new text, and the list has no more places than the old one has letters
@@ -56,35 +51,34 @@ module _ {P T list : List ℕ} {c : Cut} (k : Taken P T list c) where
         new-inside,
       )
 
-  -- a find in the new letters is not refused
-  pub letters-found : refusal (length P) (length c.letters) 0 0 ≡ 0
-  letters-found = none-refused (length P) (length c.letters) 0 0 (record { some = k.some; short = k.short; small = omega (arith, new-inside); room = omega arith })
-
-  -- the difference as it passes between functions, from its bits
-  pub change-back : {z : ℤ} → z ≡ change c → to_z w32 (of_z w32 z) ≡ change c
-  change-back {z} is =
-      ap (λ (y : ℤ). to_z w32 (of_z w32 y)) is
-      ∙ to_z-of_z w32 (change c) (record { sfits = omega (arith, difference-small (length c.letters) (c.end - c.start) 32768 (omega (arith, new-inside)) (omega (arith, k.inside, k.small))) })
-
-  pub movable : Movable c.end (change c) list
-  movable =
+  -- each place of the list from one on is one of the old text
+  pub later_small : (n : ℕ) → Small (length (from list n)) (from list n)
+  later_small n =
       record {
-        each = λ i h after.
-            moves_so T c (get_or list i 0) k.ordered after (omega (arith, fit-member (length P) (length T) list k.fits (get_or list i 0) (member list i h), k.small)) (omega (arith, new-inside));
+        small = λ i h.
+            let h' : n + i < length list = omega (arith, h, ap length (from_is list n), length-drop n list) in
+            rw (from_is list n, get_or-drop n list i 0) (omega (arith, fit-member (length P) (length T) list k.fits (get_or list (n + i) 0) (member list (n + i) h'), k.small));
       }
 
-  -- three lists, one behind another
-  pub all-put : (lent : List ℕ) {one two three : ℕ} {lent₁ lent₂ lent₃ : List ℕ} {z : ℤ} → z ≡ change c → lent₁ ≡ received lent stay → one ≡ length stay
-      → lent₂ ≡ received_from one lent₁ (fresh P T c) → two ≡ one + length (fresh P T c)
-      → lent₃ ≡ received_from two lent₂ (map (moved_by z) (those (moves c.end) (drop one list))) → three ≡ two + length (those (moves c.end) (drop one list))
-      → (lent₃ ≡ received lent (relisted P T list c)) × (three ≡ length (relisted P T list c))
-  unfolding relisted
-  all-put lent {one} {two} {three} {lent₁} {lent₂} {lent₃} {z} sign a₁ n₁ a₂ n₂ a₃ n₃ =
-      let later : those (moves c.end) (drop one list) ≡ those (moves c.end) list =
-      ap (λ (n : ℕ). those (moves c.end) (drop n list)) n₁ ∙ moves-later (length P) c.start c.end list k.some k.ordered k.rising in
-      let move : List ℕ = map (moved_by (change c)) (those (moves c.end) list) in
-      let moved : map (moved_by z) (those (moves c.end) (drop one list)) ≡ move = ap₂ (λ (y : ℤ) (l : List ℕ). map (moved_by y) l) sign later in
-      let two-lists : lent₂ ≡ received lent (stay ++ fresh P T c) = a₂ ∙ ap (λ (l : List ℕ). received_from one l (fresh P T c)) a₁ ∙ received-on 0 one lent stay (fresh P T c) (omega arith) in (
-        a₃ ∙ ap₂ (λ (l m : List ℕ). received_from two l m) two-lists moved ∙ received-on 0 two lent (stay ++ fresh P T c) move (omega (arith, length-append stay (fresh P T c))),
-        omega (arith, n₁, n₂, n₃, ap length later, length-map (those (moves c.end) list) (moved_by (change c)), length-append (stay ++ fresh P T c) move, length-append stay (fresh P T c)),
-      )
+  -- the totals after each of the three: those that stay, the fresh ones, and those moved of the list from the first that does not stay on
+  module _ {lent one : Listing} (none : lent.total ≡ 0) (p : Puts lent stay one) where
+    pub one_few : one.total ≤ length list
+    one_few = omega (arith, p.total, stay-few)
+
+    module _ {two : Listing} (q : Puts one (fresh P T c) two) where
+      pub two_few : two.total ≤ 80000
+      two_few = omega (arith, q.total, one_few, list-few, fresh-few)
+
+      module _ {three : Listing} (r : Puts two (map (moved_by (change c)) (those (moves c.end) (from list one.total))) three) where
+        pub three_few : three.total ≤ 131072
+        three_few =
+            omega (arith, r.total, two_few, length-map (those (moves c.end) (from list one.total)) (moved_by (change c)), those-few (moves c.end) (from list one.total), ap length (from_is list one.total), length-drop one.total list, list-few)
+
+        -- and all together they are the new list
+        pub all_put : (three.list.now ≡ received lent.list.now (relisted P T list c)) × (three.total ≡ length (relisted P T list c))
+        unfolding relisted
+        all_put =
+            let size : one.total ≡ length stay = omega (arith, p.total) in
+            let later : those (moves c.end) (from list one.total) ≡ those (moves c.end) list = rw (from_is list one.total, size) (moves-later (length P) c.start c.end list k.some k.ordered k.rising) in
+            let all = puts_then (puts_then p q) (rw later at r) in
+            (all.list ∙ ap (λ (n : ℕ). received_from n lent.list.now (stay ++ fresh P T c ++ map (moved_by (change c)) (those (moves c.end) list))) none, omega (arith, all.total))
