@@ -40,7 +40,7 @@ pub extern "C" fn libretto_find(
 ) -> Finding
     ensures { Answered method phrase.now text.now scratch.old list.old result scratch.new list.new }
 {
-    find::find(method, phrase, text, scratch, list)
+    find::find(method, phrase, text, scratch, list).into()
 }
 
 // A find by FJS that also lists the moves. The finding passes as a struct of four 32-bit numbers.
@@ -56,7 +56,7 @@ pub extern "C" fn libretto_find_moves(
     ensures bounded { Bounded phrase.now text.now result.comparisons }
     ensures moved { Listed phrase.now text.now scratch.old moves.old result moves.new }
 {
-    fjs::find_moves(phrase, text, scratch, list, moves)
+    fjs::find_moves(phrase, text, scratch, list, moves).into()
 }
 
 // A phrase's list for a text in which a stretch was replaced, from its list for the old text: 0 and the total, or the refusal and 0.
@@ -72,7 +72,7 @@ pub extern "C" fn libretto_relist(
 ) -> Answer
     ensures { Relisted phrase.now text.now list.now (cut start end letters.now) answer.old result answer.new }
 {
-    late_cuts::relist(phrase, text, list, start, end, letters, answer)
+    late_cuts::relist(phrase, text, list, start, end, letters, answer).into()
 }
 
 // What a letter folds to on a page: 0 and the letter, or 14 and 0.
@@ -80,7 +80,7 @@ pub extern "C" fn libretto_relist(
 pub extern "C" fn libretto_fold(page: u32, letter: u8) -> Answer
     ensures { result ≡ letter_answer page letter }
 {
-    fold::letter(page, letter)
+    fold::letter(page, letter).map(u32::from).into()
 }
 
 // The letters of a text, folded on a page into a lent target: 0 and how many were written, as many as it has entries; or 14 and 0. It passes as a struct of a 32-bit number and a length.
@@ -88,7 +88,7 @@ pub extern "C" fn libretto_fold(page: u32, letter: u8) -> Answer
 pub extern "C" fn libretto_fold_text(page: u32, text: &[u8], target: &mut [u8]) -> Folding
     ensures { LettersFolded page text.now target.old result target.new }
 {
-    fold::letters(page, text, target)
+    fold::letters(page, text, target).into()
 }
 
 // The day of a date: 0 and the days since 1 January 2000, or 16 and 0.
@@ -96,7 +96,7 @@ pub extern "C" fn libretto_fold_text(page: u32, text: &[u8], target: &mut [u8]) 
 pub extern "C" fn libretto_day(year: u32, month: u32, day: u32) -> Answer
     ensures { result ≡ day_answer year month day }
 {
-    calendar::day(year, month, day)
+    calendar::day(year, month, day).into()
 }
 
 // The date of a day: 0, the year, the month and the day of the month; or 16 and zeros. It passes as a struct of four 32-bit numbers.
@@ -104,7 +104,7 @@ pub extern "C" fn libretto_day(year: u32, month: u32, day: u32) -> Answer
 pub extern "C" fn libretto_date(day: u32) -> CalendarDate
     ensures { result ≡ date_answer day }
 {
-    calendar::date(day)
+    calendar::date(day).into()
 }
 
 // The field that a number names by its tag, read at a place of a book, for the operator; 19 alone for another role.

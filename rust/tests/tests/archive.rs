@@ -21,6 +21,6 @@ fn a_find_has_a_loop_of_its_own() {
         let engine: Vec<String> = calls(function).into_iter().filter(|name| name.starts_with("fjs::")).collect();
         assert!(engine.is_empty(), "{function} calls {engine:?}");
     }
-    // A call that is there is seen: the resolver reads cues by a function that others call too.
-    assert!(calls("libretto_resolve").iter().any(|name| name.starts_with("cues::read_cue")), "{:?}", calls("libretto_resolve"));
+    // A call that is there is seen: the resolver reads a book by a function that others call too.
+    assert!(calls("libretto_resolve").iter().any(|name| name.starts_with("cue_book::walk")), "{:?}", calls("libretto_resolve"));
 }
