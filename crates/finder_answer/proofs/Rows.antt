@@ -1,5 +1,5 @@
 -- An engine's line from its find, and the lines of all engines. Assumes nothing.
-use mathlib.Core.Path.{◌≡◌, sym, ap, ap₂, ◌∙◌}
+use mathlib.Core.Path.{◌≡◌, refl, sym, ap, ap₂, ◌∙◌}
 use Prim.Native.Nat.{ℕ, zero, suc, ◌+◌, ◌≤◌, ◌<◌}
 use native.Mathlib.Omega.{arith}
 use native.Mathlib.Numerals.{add-one}
@@ -9,44 +9,61 @@ use lib.Seq.{take_all}
 use borrow.Author.Tests.{eq-eqb, ne_eqb}
 use Rattle.matching.specs.declared.Finding.{Finding}
 use Rattle.matching.specs.Occurrences.{occurrences}
-use Rattle.matching.specs.Find.{Engine, compared, refusal, refusal_of}
-use Rattle.matching.proofs.Find.{within, none-refused, found-answer, found-listed}
+use Rattle.matching.specs.Find.{Engine, Found, compared, refusal, refusal_of}
+use Rattle.matching.proofs.Find.{within, none-refused, number-some, found-answer, found-listed}
 use Rattle.naive.specs.Naive.{naive}
-use Rattle.find.specs.Find.{engine_of, Answered}
+use Rattle.std.proofs.Common.{Ok, Err}
+use Rattle.matching.specs.declared.Tally.{Tally}
+use Rattle.matching.specs.declared.refusal.Refusal.{Refusal}
+use Rattle.matching.specs.Results.{finding}
+use Rattle.find.specs.declared.Method.{Method}
+use Rattle.find.specs.declared.Method.TheVariants.{Naive, Kmp, Horspool, Sunday, Fjs, DoubleWindow, BoyerMoore, ImprovedFjs}
+use Rattle.find.specs.Find.{engine_by}
 use Rattle.pieces.specs.Pieces.{put_all, Laid}
 use Rattle.pieces.proofs.Laid.{laid_none, laid_then}
 use Rattle.finder_lines.specs.Lines.{field, fields, line_of, refused_line}
 use Rattle.finder_lines.proofs.Fields.{fields-received}
 use Rattle.finder_answer.specs.Answered.{Row, rows, row_at, engine_line, engine_lines, answered}
 
--- 2,306 scratch entries are enough for methods 0 to 7
-entries-enough : (method m : ℕ) → method ≤ 7 → m ≤ 1024 → (engine_of method).entries m ≤ 2306
-unfolding engine_of
-entries-enough zero m h k = omega arith
-entries-enough (suc zero) m h k = omega arith
-entries-enough (suc (suc zero)) m h k = omega arith
-entries-enough (suc (suc (suc zero))) m h k = omega arith
-entries-enough (suc (suc (suc (suc zero)))) m h k = omega arith
-entries-enough (suc (suc (suc (suc (suc zero))))) m h k = omega arith
-entries-enough (suc (suc (suc (suc (suc (suc zero)))))) m h k = omega arith
-entries-enough (suc (suc (suc (suc (suc (suc (suc zero))))))) m h k = omega arith
-entries-enough (suc (suc (suc (suc (suc (suc (suc (suc method)))))))) m h k = absurd (omega arith)
+-- 2,306 scratch entries are enough for every method
+entries-enough : (method : Method) (m : ℕ) → m ≤ 1024 → (engine_by method).entries m ≤ 2306
+entries-enough Naive m k = omega arith
+entries-enough Kmp m k = omega arith
+entries-enough Horspool m k = omega arith
+entries-enough Sunday m k = omega arith
+entries-enough Fjs m k = omega arith
+entries-enough DoubleWindow m k = omega arith
+entries-enough BoyerMoore m k = omega arith
+entries-enough ImprovedFjs m k = omega arith
+
+accepted : (method : Method) (P T scratch : List ℕ) → length scratch ≡ 2306 → refusal (length P) (length T) 0 0 ≡ 0 → refusal_of (engine_by method) P T scratch ≡ 0
+accepted method P T scratch long none =
+    let limits = within (length P) (length T) 0 0 none in
+    none-refused (length P) (length T) (length scratch) ((engine_by method).entries (length P))
+    (record { some = limits.some; short = limits.short; small = limits.small; room = omega (arith, entries-enough method (length P) limits.short) })
+
+-- so no find is refused
+pub found-some : (method : Method) (e : Refusal) {P T scratch list : List ℕ} {scratch' list' : List ℕ} → Found (engine_by method) P T scratch list (finding (Err e)) scratch' list' → length scratch ≡ 2306
+    → refusal (length P) (length T) 0 0 ≡ 0 → ⊥
+found-some method e {P} {T} {scratch} f long none = omega (arith, number-some e, ap (λ (x : Finding). x.refusal) (found-answer f (accepted method P T scratch long none)))
 
 -- the line of what a find gave and left is the engine's
-pub found-line : {method : ℕ} {P T scratch list : List ℕ} {r : Finding} {scratch' list' : List ℕ} (name : List ℕ) → Answered method P T scratch list r scratch' list' → method ≤ 7
+pub found-line : (method : Method) {P T scratch list : List ℕ} {t : Tally} {scratch' list' : List ℕ} (name : List ℕ) → Found (engine_by method) P T scratch list (finding (Ok t)) scratch' list'
     → length scratch ≡ 2306 → length list ≡ 4096 → refusal (length P) (length T) 0 0 ≡ 0
-    → line_of name r.total r.comparisons list' ≡ engine_line (record { name = name; engine = engine_of method }) P T
+    → line_of name t.total t.comparisons list' ≡ engine_line (record { name = name; engine = engine_by method }) P T
 unfolding engine_line line_of
-found-line {method} {P} {T} {scratch} {list} {r} {scratch'} {list'} name a low long places none =
-    let e : Engine = engine_of method in
-    let limits = within (length P) (length T) 0 0 none in
-    let accepted : refusal_of e P T scratch ≡ 0 =
-    none-refused (length P) (length T) (length scratch) (e.entries (length P)) (record { some = limits.some; short = limits.short; small = limits.small; room = omega (arith, entries-enough method (length P) low limits.short) }) in
-    let f = a.found (omega arith) in
+found-line method {P} {T} {scratch} {list} {t} {scratch'} {list'} name f long places none =
+    let e : Engine = engine_by method in
     let found : List ℕ = occurrences P T in
-    ap₂ (λ (x : Finding) (l : List ℕ). line_of name x.total x.comparisons l) (found-answer f accepted) (found-listed f accepted)
+    let free = accepted method P T scratch long none in
+    ap₂ (λ (x : Finding) (l : List ℕ). line_of name x.total x.comparisons l) (found-answer f free) (found-listed f free)
     ∙ ap (λ (l : List (List ℕ)). name ∷ field (length found) ∷ field (compared e P T) ∷ (l ++ ((10 ∷ []) ∷ [])))
     (fields-received list found ∙ ap (λ (n : ℕ). fields (length found) (take n found)) places)
+
+-- as many rows as the code goes through
+pub row_count : length rows ≡ 8
+unfolding rows
+row_count = refl
 
 module _ (P T : List ℕ) where
   -- the lines of one row more

@@ -5,27 +5,30 @@
 
 ghost use Rattle.std.specs.Prelude.{◌≡◌, ◌≤◌, ◌<◌, length};
 ghost use Rattle.matching.specs.Find.{refusal};
-ghost use Rattle.find.specs.Find.{engine_of};
+ghost use Rattle.find.specs.Find.{engine_by};
 ghost use Rattle.pieces.specs.Pieces.{Laid, put_all};
 ghost use Rattle.finder_answer.specs.Answered.{rows, row_at, engine_line, engine_lines, answered};
 
-// Puts the line of one engine from `at` on: where the next line goes. The caller has met no refusal, and 2,306 scratch entries are enough for methods 0 to 7.
+use find::Method;
+
+// Puts the line of one engine from `at` on: where the next line goes. The caller has met no refusal, and 2,306 scratch entries are enough for every method, so the find is not refused.
 fn put_engine(
-    method: u32,
+    method: Method,
     name: &[u8],
     phrase: &[u8],
     text: &[u8],
     output: &mut [u8],
     at: usize,
 ) -> usize
-    requires method_bound { method ≤ 7 }
-    requires text_value { refusal (length phrase.now) (length text.now) 0 0 ≡ 0 }
-    ensures { Laid output.new result (put_all output.old at (engine_line (record { name = name.entry.now; engine = engine_of method }) phrase.now text.now)) }
+    requires { refusal (length phrase.now) (length text.now) 0 0 ≡ 0 }
+    ensures { Laid output.new result (put_all output.old at (engine_line (record { name = name.entry.now; engine = engine_by method }) phrase.now text.now)) }
 {
     let mut scratch = [0; 2306];
     let mut list = [0; 4096];
-    let r = find::find(method, phrase, text, &mut scratch, &mut list);
-    finder_lines::put_line(output, at, name, r.total, r.comparisons, &list)
+    let Ok(found) = method.find(phrase, text, &mut scratch, &mut list) else {
+        unreachable!()
+    };
+    finder_lines::put_line(output, at, name, found.total, found.comparisons, &list)
 }
 
 // Puts the line of the engine in that row.
@@ -35,14 +38,14 @@ fn put_row(row: u32, phrase: &[u8], text: &[u8], output: &mut [u8], at: usize) -
     ensures { Laid output.new result (put_all output.old at (engine_line (row_at row) phrase.now text.now)) }
 {
     match row {
-        0 => put_engine(0, b"naive", phrase, text, output, at),
-        1 => put_engine(1, b"kmp", phrase, text, output, at),
-        2 => put_engine(2, b"horspool", phrase, text, output, at),
-        3 => put_engine(3, b"sunday", phrase, text, output, at),
-        4 => put_engine(4, b"fjs", phrase, text, output, at),
-        5 => put_engine(6, b"bm", phrase, text, output, at),
-        6 => put_engine(5, b"double", phrase, text, output, at),
-        _ => put_engine(7, b"improved", phrase, text, output, at),
+        0 => put_engine(Method::Naive, b"naive", phrase, text, output, at),
+        1 => put_engine(Method::Kmp, b"kmp", phrase, text, output, at),
+        2 => put_engine(Method::Horspool, b"horspool", phrase, text, output, at),
+        3 => put_engine(Method::Sunday, b"sunday", phrase, text, output, at),
+        4 => put_engine(Method::Fjs, b"fjs", phrase, text, output, at),
+        5 => put_engine(Method::BoyerMoore, b"bm", phrase, text, output, at),
+        6 => put_engine(Method::DoubleWindow, b"double", phrase, text, output, at),
+        _ => put_engine(Method::ImprovedFjs, b"improved", phrase, text, output, at),
     }
 }
 
@@ -52,10 +55,8 @@ fn put_rows(phrase: &[u8], text: &[u8], output: &mut [u8]) -> usize
     ensures { Laid output.new result (put_all output.old 0 (engine_lines rows phrase.now text.now)) }
 {
     let mut at = 0;
-    let mut row = 0;
-    while row < 8 {
+    for row in 0..8 {
         at = put_row(row, phrase, text, output, at);
-        row += 1;
     }
     at
 }
@@ -64,9 +65,8 @@ fn put_rows(phrase: &[u8], text: &[u8], output: &mut [u8]) -> usize
 pub fn put_answer(phrase: &[u8], text: &[u8], output: &mut [u8]) -> usize
     ensures { Laid output.new result (put_all output.old 0 (answered phrase.now text.now)) }
 {
-    let number = matching::refused(phrase.len(), text.len(), 0, 0);
-    if number != 0 {
-        return finder_lines::put_refused(output, 0, number);
+    match matching::refused(phrase.len(), text.len(), 0, 0) {
+        Ok(()) => put_rows(phrase, text, output),
+        Err(refusal) => finder_lines::put_refused(output, 0, refusal.into()),
     }
-    put_rows(phrase, text, output)
 }

@@ -1,14 +1,15 @@
--- The decimal digits of a number, one at a time from the last. Assumes nothing.
-use mathlib.Core.Path.{◌≡◌, refl, ap}
-use Prim.Native.Nat.{ℕ, zero, suc, ◌+◌, ◌*◌, ◌/◌, ◌%◌, ◌≤◌, ◌<◌}
+-- The decimal digits of a number, one at a time from the last, and an array in which they are found. Assumes nothing.
+use mathlib.Core.Path.{◌≡◌, refl, sym, ap, ◌∙◌}
+use Prim.Native.Nat.{ℕ, zero, suc, ◌+◌, ◌-◌, ◌*◌, ◌/◌, ◌%◌, ◌≤◌, ◌<◌}
 use native.Mathlib.Omega.{arith}
 use mathlib.Core.Bool.{cond}
-use mathlib.Core.List.{List, [], ◌∷◌, ◌++◌}
-use lib.ListN.{length, length-append}
+use mathlib.Core.List.{List, [], ◌∷◌, ◌++◌, append-nil, append_assoc}
+use lib.ListN.{length, get_or, take, drop, set, replicate, length-append, length-set, length-drop, get_or-replicate}
+use lib.Seq.{drop-cons, drop-set-lt, get_or-set_same, get_or-set_other, take_all}
 use lib.Dec.{ltb}
 use borrow.Author.Tests.{lt-ltb, le-ltb, ltb-true, ltb-false}
 use Rattle.matching.proofs.CaseAnalysis.{by-test}
-use Rattle.finder_lines.specs.Lines.{decimal_in, decimal}
+use Rattle.finder_lines.specs.Lines.{decimal_in, decimal, field}
 
 -- any two bounds above n give the same digits
 decimal-enough : (f g n : ℕ) → n < f → n < g → decimal_in f n ≡ decimal_in g n
@@ -44,3 +45,64 @@ decimal-short (suc k) n h =
     (λ e.
     let many : 10 ≤ n = ltb-false n 10 e in
     omega (arith, ap length (decimal-more n many), length-append (decimal (n / 10)) ((48 + n % 10) ∷ []), decimal-short k (n / 10) (omega arith)))
+
+-- ---- an array of spaces in which the digits are found, from the last to the first
+
+-- the digits of what is left and those behind place i are the number's
+pub record Found (value : ℕ) (digits : List ℕ) (i rest : ℕ) : Type 0 where
+  pub all : decimal value ≡ decimal rest ++ drop (suc i) digits
+  pub space : (k : ℕ) → k ≤ i → get_or digits k 0 ≡ 32
+  pub long : length digits ≡ 11
+  pub low : 1 ≤ i
+  pub high : i ≤ 10
+  pub small : rest < tens i
+
+pub found_none : (value : ℕ) → value < 4294967296 → Found value (replicate 11 32) 10 value
+unfolding tens
+found_none value h = record { all = sym (append-nil (decimal value)); space = λ k l. get_or-replicate 11 k 32 0 (omega arith); long = refl; low = omega arith; high = omega arith; small = omega arith }
+
+-- a digit stored at i stands before those found
+stored : (digits : List ℕ) (i d : ℕ) → i < length digits → drop i (set digits i d) ≡ d ∷ drop (suc i) digits
+stored digits i d h =
+    drop-cons (set digits i d) i 0 (omega (arith, length-set digits i d))
+    ∙ ap (λ (x : ℕ). x ∷ drop (suc i) (set digits i d)) (get_or-set_same digits i d 0 h) ∙ ap (λ (l : List ℕ). d ∷ l) (drop-set-lt (suc i) digits i d (omega arith))
+
+-- two places are left at least where the rest is not below 10
+place-left : (rest i : ℕ) → 1 ≤ i → 10 ≤ rest → rest < tens i → (2 ≤ i) × (rest / 10 < tens (i - 1))
+unfolding tens
+place-left rest zero h l b = absurd (omega arith)
+place-left rest (suc zero) h l b = absurd (omega arith)
+place-left rest (suc (suc i)) h l b = let e : suc (suc i) - 1 ≡ suc i = omega arith in (omega arith, rw e (omega arith))
+
+module _ {value : ℕ} {digits : List ℕ} {i rest : ℕ} (f : Found value digits i rest) where
+  -- one digit more
+  pub found_next : 10 ≤ rest → Found value (set digits i (48 + rest % 10)) (i - 1) (rest / 10)
+  found_next h =
+      let d : ℕ = 48 + rest % 10 in
+      let low : 1 ≤ i = f.low in
+      let r = place-left rest i low h f.small in
+      let e : suc (i - 1) ≡ i = omega arith in
+      record {
+        all =
+            f.all ∙ ap (λ (l : List ℕ). l ++ drop (suc i) digits) (decimal-more rest h) ∙ append_assoc (decimal (rest / 10)) (d ∷ []) (drop (suc i) digits)
+            ∙ ap (λ (l : List ℕ). decimal (rest / 10) ++ l) (sym (ap (λ (n : ℕ). drop n (set digits i d)) e ∙ stored digits i d (omega (arith, f.long, f.high))));
+        space = λ k l. get_or-set_other digits i k d 0 (λ q. omega arith) ∙ f.space k (omega arith);
+        long = length-set digits i d ∙ f.long;
+        low = omega (arith, r.0);
+        high = omega (arith, f.high);
+        small = r.1;
+      }
+
+  -- the last digit found, and the space before it
+  pub found_all : rest < 10 → take (11 - (i - 1)) (drop (i - 1) (set digits i (48 + rest))) ≡ field value
+  found_all h =
+      let full : List ℕ = set digits i (48 + rest) in
+      let low : 1 ≤ i = f.low in
+      let e : suc (i - 1) ≡ i = omega arith in
+      let inside : i < length digits = omega (arith, f.long, f.high) in
+      let size : length full ≡ 11 = length-set digits i (48 + rest) ∙ f.long in
+      take_all (11 - (i - 1)) (drop (i - 1) full) (omega (arith, length-drop (i - 1) full, size))
+      ∙ drop-cons full (i - 1) 0 (omega (arith, size, f.high))
+      ∙ ap (λ (x : ℕ). x ∷ drop (suc (i - 1)) full) (get_or-set_other digits i (i - 1) (48 + rest) 0 (λ q. omega arith) ∙ f.space (i - 1) (omega arith))
+      ∙ ap (λ (l : List ℕ). 32 ∷ l)
+      (ap (λ (n : ℕ). drop n full) e ∙ stored digits i (48 + rest) inside ∙ sym (f.all ∙ ap (λ (l : List ℕ). l ++ drop (suc i) digits) (decimal-one rest h)))

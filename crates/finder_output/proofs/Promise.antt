@@ -14,10 +14,6 @@ use Rattle.finder_output.proofs.Split.{Split}
 use Rattle.finder_output.proofs.Fits.{printed-fits}
 
 module _ {input output : List ℕ} where
-  -- an output that is too short
-  pub promise-none : length output < output_size → Printed input output 0 output
-  promise-none h = let on = lt-ltb (length output) output_size h in record { count = rw on; left = rw on }
-
   module _ {r : ℕ} {output' : List ℕ} (enough : output_size ≤ length output) where
     -- the pieces of all that is printed were laid out
     promise-laid : (pieces : List (List ℕ)) → printed input ≡ joined pieces → Laid output' r (put_all output 0 pieces) → Printed input output r output'

@@ -1,14 +1,16 @@
--- The phrase and the text as parts of the input, from the phrase's length on; and how that length is found, byte by byte. Assumes nothing.
+-- The phrase and the text as parts of the input, from the phrase's length on, and that length in the library's words. Assumes nothing.
 use mathlib.Core.Path.{◌≡◌, refl, sym, ap, ◌∙◌}
-use Prim.Native.Nat.{ℕ, suc, ◌+◌, ◌-◌, ◌≤◌, ◌<◌}
+use Prim.Native.Nat.{ℕ, suc, ◌+◌, ◌-◌, ◌≤◌, ◌<◌, min}
 use native.Mathlib.Omega.{arith}
-use native.Mathlib.Numerals.{add-one}
 use mathlib.Core.Bool.{cond}
 use mathlib.Core.List.{List, [], ◌∷◌}
-use lib.ListN.{length, get_or, take, drop, length-drop, drop_of_length-le}
-use lib.Seq.{take_all, drop-cons}
-use lib.Dec.{eqb}
-use borrow.Author.Tests.{eq-eqb, ne_eqb}
+use lib.ListN.{length, take, drop, length-drop, drop_of_length-le}
+use lib.Seq.{take_all}
+use lib.Dec.{eqb, leb, ltb}
+use borrow.Author.Tests.{leb-true, leb-false, ltb-false}
+use Rattle.std.specs.Prelude.{◌==◌, Option, Some, None, position, unwrap_or}
+use Rattle.std.specs.List.{position_or_len}
+use Rattle.std.proofs.lemmas.List.Recursion.{is_position_or_len}
 use Rattle.matching.proofs.CaseAnalysis.{by-test}
 use Rattle.finder_output.specs.Printed.{phrase_in, text_in}
 
@@ -41,51 +43,36 @@ pub record Split (input : List ℕ) (end start : ℕ) : Type 0 where
   pub phrase : take end input ≡ phrase_in input
   pub text : take (length input - start) (drop start input) ≡ text_in input
 
-split_at : {input : List ℕ} {end start : ℕ} → end ≡ length (phrase_in input) → start ≤ length input → drop start input ≡ drop (suc end) input → Split input end start
-split_at {input} {end} {start} e inside same =
+-- the text starts after the byte that ends the phrase, or at the input's end where there is none
+pub split_at : {input : List ℕ} {end start : ℕ} → end ≡ length (phrase_in input) → start ≡ min (end + 1) (length input) → Split input end start
+split_at {input} {end} {start} e s =
     record {
       ends = omega (arith, phrase-within input);
-      starts = inside;
+      starts = omega arith;
       phrase = ap (λ (n : ℕ). take n input) e ∙ sym (phrase-is input);
       text =
           take_all (length input - start) (drop start input) (omega (arith, length-drop start input)) ∙ same ∙ ap (λ (n : ℕ). drop (suc n) input) e ∙ sym (text-is input);
     }
+  where
+    same : drop start input ≡ drop (suc end) input
+    same =
+        by-test (λ _. drop start input ≡ drop (suc end) input) (leb (suc end) (length input))
+        (λ t. let h : suc end ≤ length input = leb-true (suc end) (length input) t in let is : start ≡ suc end = omega arith in ap (λ (n : ℕ). drop n input) is)
+        (λ t.
+        let h : length input < suc end = leb-false (suc end) (length input) t in
+        drop_of_length-le input {i = start} (omega arith) ∙ sym (drop_of_length-le input {i = suc end} (omega arith)))
 
--- the text starts after the byte that ends the phrase; where there is none, it is empty
-pub split-ten : {input : List ℕ} {end start : ℕ} → end ≡ length (phrase_in input) → end < length input → start ≡ end + 1 → Split input end start
-split-ten {input} e inside s = split_at e (omega arith) (ap (λ (n : ℕ). drop n input) (s ∙ add-one _))
+-- the phrase's length in the library's words: the place of the first byte 10, or the input's length
+pub end_is : (input : List ℕ) {found : Option ℕ} {end : ℕ} → found ≡ position (λ (byte : ℕ). byte == 10) input → end ≡ unwrap_or found (length input) → end ≡ length (phrase_in input)
+unfolding phrase_in
+end_is input {found} {end} f e =
+    let at : length (phrase_in input) ≡ place = is_position_or_len (λ (l : List ℕ). length (phrase_in l)) (λ (byte : ℕ). byte == 10) refl step input in
+    let within : place ≤ length input = omega (arith, at, phrase-within input) in
+    e ∙ ap (λ (o : Option ℕ). unwrap_or o (length input)) f
+    ∙ by-test (λ t. unwrap_or (cond t (Some place) None) (length input) ≡ place) (ltb place (length input)) (λ _. refl) (λ t. omega (arith, ltb-false place (length input) t)) ∙ sym at
+  where
+    place : ℕ
+    place = position_or_len (λ (byte : ℕ). byte == 10) input
 
-pub split-none : {input : List ℕ} {end start : ℕ} → end ≡ length (phrase_in input) → length input ≤ end → start ≡ end → Split input end start
-split-none {input} {end} {start} e past s =
-    split_at e (omega (arith, phrase-within input)) (drop_of_length-le input {i = start} (omega arith) ∙ sym (drop_of_length-le input {i = suc end} (omega arith)))
-
--- ---- the phrase's length, one byte at a time
-
--- i bytes of it are passed
-pub record Passed (input : List ℕ) (i : ℕ) : Type 0 where
-  pub inside : i ≤ length input
-  pub rest : length (phrase_in input) ≡ i + length (phrase_in (drop i input))
-
-pub passed_none : (input : List ℕ) → Passed input 0
-passed_none input = record { inside = omega arith; rest = omega arith }
-
-module _ {input : List ℕ} {i : ℕ} (p : Passed input i) where
-  -- a byte that is not 10 is passed
-  pub passed-more : i < length input → (get_or input i 0 ≡ 10 → ⊥) → Passed input (i + 1)
-  unfolding phrase_in
-  passed-more h other =
-      let on : length (phrase_in (drop i input)) ≡ suc (length (phrase_in (drop (suc i) input))) = rw (drop-cons input i 0 h, ne_eqb (get_or input i 0) 10 other) in
-      record { inside = omega arith; rest = rw add-one (omega (arith, p.rest)) }
-
-  -- byte 10 ends the phrase, and so does the input's end
-  pub passed-ten : i < length input → get_or input i 0 ≡ 10 → i ≡ length (phrase_in input)
-  unfolding phrase_in
-  passed-ten h ten =
-      let over : length (phrase_in (drop i input)) ≡ 0 = rw (drop-cons input i 0 h, eq-eqb (get_or input i 0) 10 ten) in
-      omega (arith, p.rest)
-
-  pub passed-all : length input ≤ i → i ≡ length (phrase_in input)
-  unfolding phrase_in
-  passed-all h =
-      let over : length (phrase_in (drop i input)) ≡ 0 = rw (drop_of_length-le input h) in
-      omega (arith, p.rest)
+    step : (byte : ℕ) (l : List ℕ) → length (phrase_in (byte ∷ l)) ≡ cond (byte == 10) 0 (1 + length (phrase_in l))
+    step byte l = by-test (λ t. length (cond t [] (byte ∷ phrase_in l)) ≡ cond t 0 (1 + length (phrase_in l))) (eqb byte 10) (λ _. refl) (λ _. omega arith)

@@ -1,6 +1,6 @@
 // This program prints the 256 entries of page 15's fold from its rule (document 02, (iv)): sixteen to a line, in decimal, one space between, each line ended by byte 10.
 // It does not look at the table of `fold`: the gate holds the two together, number by number.
-// It depends on `fold` for page 1's letters and the rule, on `matching` for the answer that folding gives, on `pieces` and `finder_lines` to lay the numbers out, and on `io` to write.
+// It depends on `fold` for page 1's letters and the rule, on `pieces` and `finder_lines` to lay the numbers out, and on `io` to write.
 #![tactic(auto)]
 
 ghost use Rattle.std.specs.Prelude.{◌≡◌, ◌∷◌, []};
@@ -10,22 +10,17 @@ ghost use Rattle.pieces.specs.Pieces.{Laid, put, put_all};
 ghost use Rattle.page_table.specs.Entries.{after, entries};
 
 // What a letter folds to: by the four pairs that page 15 has besides, and else as on page 1.
+#[tactic(auto, unfolding(fold::specs::Fold::folded15, fold::specs::Fold::paired))]
 fn entry(letter: u8) -> u8
     ensures { result ≡ folded15 letter }
 {
-    if letter == 0xA6 {
-        return 0xA8;
+    match letter {
+        0xA6 => 0xA8,
+        0xB4 => 0xB8,
+        0xBC => 0xBD,
+        0xBE => 0xFF,
+        _ => fold::on_page_1(letter),
     }
-    if letter == 0xB4 {
-        return 0xB8;
-    }
-    if letter == 0xBC {
-        return 0xBD;
-    }
-    if letter == 0xBE {
-        return 0xFF;
-    }
-    fold::letter(1, letter).number as u8
 }
 
 // Puts the decimal digits of a number: its field without the space.
@@ -53,11 +48,9 @@ fn put_entries(output: &mut [u8]) -> usize
     ensures { Laid output.new result (put_all output.old 0 (entries 256)) }
 {
     let mut at = 0;
-    let mut letter = 0;
-    while letter < 256 {
+    for letter in 0..256 {
         at = put_digits(output, at, entry(letter as u8));
         at = put_after(output, at, letter);
-        letter += 1;
     }
     at
 }

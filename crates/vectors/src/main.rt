@@ -4,453 +4,416 @@
 // One line a case: what is asked, then numbers, one space before each. Every table is 9 throughout, and every list 9, before it is used.
 #![tactic(auto)]
 
-fn wide(entry: u16) -> u64 {
-    entry as u64
+use find::Method;
+use matching::{Answer, Finding};
+use std::{fmt, io};
+
+// The numbers that end a line: one space before each.
+#[derive(Clone, Copy)]
+struct Numbers<'a, T> {
+    numbers: &'a [T],
 }
 
-fn wide_place(place: u32) -> u64 {
-    place as u64
-}
-
-fn number(value: u64) {
-    io::write_all(1, b" ");
-    io::print_decimal(1, value);
-}
-
-// Ends a line with the entries of a table from a place on, up to another or to the table's end.
-fn entries(table: &[u16], from: usize, to: usize) {
-    let mut i = from;
-    while i < to {
-        if i < table.len() {
-            number(wide(table[i]));
+impl<T: fmt::Display> fmt::Display for Numbers<'_, T> {
+    fn fmt<W: fmt::Write>(&self, f: &mut fmt::Formatter<W>) -> fmt::Result {
+        for number in self.numbers {
+            write!(f, " {number}")?;
         }
-        i += 1;
+        Ok(())
     }
-    io::write_all(1, b"\n");
+}
+
+// Those of a table from a place on, up to another or to the table's end.
+fn entries(table: &[u16], from: usize, to: usize) -> Numbers<'_, u16> {
+    let end = to.min(table.len());
+    Numbers {
+        numbers: &table[from.min(end)..end],
+    }
 }
 
 // The KMP table of a pattern: its first `count` entries, one more than were made.
-fn kmp_table(pattern: &[u8], count: usize) {
+fn kmp_table(rt: &impl Print, pattern: &str, count: usize) -> io::Result<()> {
     let mut table = [9; 16];
-    border_tables::kmp_table(pattern, &mut table);
-    io::write_all(1, b"kmp table ");
-    io::write_all(1, pattern);
-    entries(&table, 0, count);
+    border_tables::kmp_table(pattern.as_bytes(), &mut table);
+    let made = entries(&table, 0, count);
+    println!(rt; "kmp table {pattern}{made}")
 }
 
 // A KMP table of five entries: too short for five letters, just enough for four.
-fn kmp_table_in_five(pattern: &[u8]) {
+fn kmp_table_in_five(rt: &impl Print, pattern: &str) -> io::Result<()> {
     let mut table = [9; 5];
-    border_tables::kmp_table(pattern, &mut table);
-    io::write_all(1, b"kmp table in five ");
-    io::write_all(1, pattern);
-    entries(&table, 0, 5);
+    border_tables::kmp_table(pattern.as_bytes(), &mut table);
+    let made = entries(&table, 0, 5);
+    println!(rt; "kmp table in five {pattern}{made}")
 }
 
 // Sunday, Horspool and DELTA1 tables: the entries of some letters. A letter table has 256 entries, and one more here.
-fn sunday_table(pattern: &[u8], from: usize, to: usize) {
+fn sunday_table(rt: &impl Print, pattern: &str, from: usize, to: usize) -> io::Result<()> {
     let mut table = [9; 257];
-    letter_tables::sunday_table(pattern, &mut table);
-    io::write_all(1, b"sunday table ");
-    io::write_all(1, pattern);
-    entries(&table, from, to);
+    letter_tables::sunday_table(pattern.as_bytes(), &mut table);
+    let made = entries(&table, from, to);
+    println!(rt; "sunday table {pattern}{made}")
 }
 
-fn horspool_table(pattern: &[u8], from: usize, to: usize) {
+fn horspool_table(rt: &impl Print, pattern: &str, from: usize, to: usize) -> io::Result<()> {
     let mut table = [9; 257];
-    letter_tables::horspool_table(pattern, &mut table);
-    io::write_all(1, b"horspool table ");
-    io::write_all(1, pattern);
-    entries(&table, from, to);
+    letter_tables::horspool_table(pattern.as_bytes(), &mut table);
+    let made = entries(&table, from, to);
+    println!(rt; "horspool table {pattern}{made}")
 }
 
-fn delta1_table(pattern: &[u8], from: usize, to: usize) {
+fn delta1_table(rt: &impl Print, pattern: &str, from: usize, to: usize) -> io::Result<()> {
     let mut table = [9; 257];
-    letter_tables::delta1_table(pattern, &mut table);
-    io::write_all(1, b"delta1 table ");
-    io::write_all(1, pattern);
-    entries(&table, from, to);
+    letter_tables::delta1_table(pattern.as_bytes(), &mut table);
+    let made = entries(&table, from, to);
+    println!(rt; "delta1 table {pattern}{made}")
 }
 
 // All three in a table one entry short.
-fn letter_tables_in_255(pattern: &[u8]) {
+fn letter_tables_in_255(rt: &impl Print, pattern: &str) -> io::Result<()> {
     let mut table = [9; 255];
-    letter_tables::sunday_table(pattern, &mut table);
-    letter_tables::horspool_table(pattern, &mut table);
-    letter_tables::delta1_table(pattern, &mut table);
-    io::write_all(1, b"letter tables in 255 ");
-    io::write_all(1, pattern);
-    entries(&table, 96, 110);
+    letter_tables::sunday_table(pattern.as_bytes(), &mut table);
+    letter_tables::horspool_table(pattern.as_bytes(), &mut table);
+    letter_tables::delta1_table(pattern.as_bytes(), &mut table);
+    let made = entries(&table, 96, 110);
+    println!(rt; "letter tables in 255 {pattern}{made}")
 }
 
-// The DELTA2 table of a pattern, and the borders of its suffixes: all entries of either.
-fn delta2_in(pattern: &[u8], borders: &mut [u16], table: &mut [u16]) {
-    suffix_tables::delta2_table(pattern, borders, table);
-    io::write_all(1, b"delta2 table ");
-    io::write_all(1, pattern);
-    entries(table, 0, table.len());
-    io::write_all(1, b"borders ");
-    io::write_all(1, pattern);
-    entries(borders, 0, borders.len());
-}
-
-// The same in so many entries, with so many lent for the borders.
-fn delta2_table(pattern: &[u8], room: usize, lent: usize) {
+// The DELTA2 table of a pattern in so many entries, with so many lent for the borders of its suffixes: all entries of either.
+fn delta2_table(rt: &impl Print, pattern: &str, room: usize, lent: usize) -> io::Result<()> {
     let mut borders = [9; 16];
     let mut table = [9; 16];
-    if room <= 16 {
-        if lent <= 16 {
-            delta2_in(pattern, &mut borders[..lent], &mut table[..room]);
-        }
-    }
+    let borders = &mut borders[..lent.min(16)];
+    let table = &mut table[..room.min(16)];
+    suffix_tables::delta2_table(pattern.as_bytes(), borders, table);
+    let made = Numbers { numbers: &*table };
+    println!(rt; "delta2 table {pattern}{made}")?;
+    let found = Numbers { numbers: &*borders };
+    println!(rt; "borders {pattern}{found}")
 }
 
-// The widest gap of a pattern and its position; and the KMP entries and MAX_Shift, all entries of the table that they were lent.
-fn max_shift_in(pattern: &[u8], table: &mut [u16]) {
-    let widest = border_tables::max_shift_table(pattern, table);
-    io::write_all(1, b"widest gap ");
-    io::write_all(1, pattern);
-    number(widest.width as u64);
-    number(widest.letter as u64);
-    io::write_all(1, b"\n");
-    io::write_all(1, b"max shift table ");
-    io::write_all(1, pattern);
-    entries(table, 0, table.len());
-}
-
-// The same in so many entries.
-fn max_shift_table(pattern: &[u8], room: usize) {
+// The widest gap of a pattern and its position; and the KMP entries and MAX_Shift, all entries of the table that they were lent, so many.
+fn max_shift_table(rt: &impl Print, pattern: &str, room: usize) -> io::Result<()> {
     let mut table = [9; 24];
-    if room <= 24 {
-        max_shift_in(pattern, &mut table[..room]);
-    }
+    let table = &mut table[..room.min(24)];
+    let widest = border_tables::max_shift_table(pattern.as_bytes(), table);
+    let width = widest.width;
+    let letter = widest.letter;
+    println!(rt; "widest gap {pattern} {width} {letter}")?;
+    let made = Numbers { numbers: &*table };
+    println!(rt; "max shift table {pattern}{made}")
 }
 
-fn tables() {
-    kmp_table(b"a", 3);
-    kmp_table(b"aaaa", 6);
-    kmp_table(b"aaab", 6);
-    kmp_table(b"abab", 6);
-    kmp_table(b"abaababaab", 12);
-    kmp_table(b"abcabcacab", 12);
-    kmp_table(b"", 2);
-    kmp_table_in_five(b"abcab");
-    kmp_table_in_five(b"abca");
+fn tables(rt: &impl Print) -> io::Result<()> {
+    kmp_table(rt, "a", 3)?;
+    kmp_table(rt, "aaaa", 6)?;
+    kmp_table(rt, "aaab", 6)?;
+    kmp_table(rt, "abab", 6)?;
+    kmp_table(rt, "abaababaab", 12)?;
+    kmp_table(rt, "abcabcacab", 12)?;
+    kmp_table(rt, "", 2)?;
+    kmp_table_in_five(rt, "abcab")?;
+    kmp_table_in_five(rt, "abca")
 }
 
-fn letter_tables() {
-    sunday_table(b"la", 96, 110);
-    sunday_table(b"la", 255, 257);
-    sunday_table(b"abcabcacab", 96, 110);
-    sunday_table(b"~", 125, 128);
-    horspool_table(b"la", 96, 110);
-    horspool_table(b"la", 255, 257);
-    horspool_table(b"abcabcacab", 96, 110);
-    horspool_table(b"~", 125, 128);
-    letter_tables_in_255(b"la");
+fn letter_tables(rt: &impl Print) -> io::Result<()> {
+    sunday_table(rt, "la", 96, 110)?;
+    sunday_table(rt, "la", 255, 257)?;
+    sunday_table(rt, "abcabcacab", 96, 110)?;
+    sunday_table(rt, "~", 125, 128)?;
+    horspool_table(rt, "la", 96, 110)?;
+    horspool_table(rt, "la", 255, 257)?;
+    horspool_table(rt, "abcabcacab", 96, 110)?;
+    horspool_table(rt, "~", 125, 128)?;
+    letter_tables_in_255(rt, "la")
 }
 
-fn delta1_tables() {
-    delta1_table(b"la", 96, 110);
-    delta1_table(b"la", 255, 257);
-    delta1_table(b"ABCXXXABC", 64, 90);
-    delta1_table(b"~", 125, 128);
+fn delta1_tables(rt: &impl Print) -> io::Result<()> {
+    delta1_table(rt, "la", 96, 110)?;
+    delta1_table(rt, "la", 255, 257)?;
+    delta1_table(rt, "ABCXXXABC", 64, 90)?;
+    delta1_table(rt, "~", 125, 128)
 }
 
 // The two tables of source document 003 first; then patterns of one letter and of two, and one of eleven.
-fn delta2_tables() {
-    delta2_table(b"ABCXXXABC", 10, 11);
-    delta2_table(b"ABYXCDEYX", 10, 11);
-    delta2_table(b"a", 2, 3);
-    delta2_table(b"aaaa", 5, 6);
-    delta2_table(b"baaa", 5, 6);
-    delta2_table(b"aaab", 5, 6);
-    delta2_table(b"abab", 5, 6);
-    delta2_table(b"badbacbacba", 12, 13);
-    delta2_table(b"", 1, 2);
+fn delta2_tables(rt: &impl Print) -> io::Result<()> {
+    delta2_table(rt, "ABCXXXABC", 10, 11)?;
+    delta2_table(rt, "ABYXCDEYX", 10, 11)?;
+    delta2_table(rt, "a", 2, 3)?;
+    delta2_table(rt, "aaaa", 5, 6)?;
+    delta2_table(rt, "baaa", 5, 6)?;
+    delta2_table(rt, "aaab", 5, 6)?;
+    delta2_table(rt, "abab", 5, 6)?;
+    delta2_table(rt, "badbacbacba", 12, 13)?;
+    delta2_table(rt, "", 1, 2)
 }
 
 // Just enough of both, one entry too few of either, and of both.
-fn delta2_in_little() {
-    delta2_table(b"abca", 4, 5);
-    delta2_table(b"abca", 3, 5);
-    delta2_table(b"abca", 4, 4);
-    delta2_table(b"abca", 3, 4);
-    delta2_table(b"", 0, 1);
-    delta2_table(b"", 0, 0);
+fn delta2_in_little(rt: &impl Print) -> io::Result<()> {
+    delta2_table(rt, "abca", 4, 5)?;
+    delta2_table(rt, "abca", 3, 5)?;
+    delta2_table(rt, "abca", 4, 4)?;
+    delta2_table(rt, "abca", 3, 4)?;
+    delta2_table(rt, "", 0, 1)?;
+    delta2_table(rt, "", 0, 0)
 }
 
 // Source document 001's pattern first; then one gap, equal gaps, no letter twice, and md above KMP_Shift at and below j - 1.
-fn max_shift_tables() {
-    max_shift_table(b"abaaca", 15);
-    max_shift_table(b"a", 5);
-    max_shift_table(b"aaaa", 11);
-    max_shift_table(b"abab", 11);
-    max_shift_table(b"abcd", 11);
-    max_shift_table(b"abaab", 13);
-    max_shift_table(b"abababbbba", 23);
-    max_shift_table(b"", 3);
+fn max_shift_tables(rt: &impl Print) -> io::Result<()> {
+    max_shift_table(rt, "abaaca", 15)?;
+    max_shift_table(rt, "a", 5)?;
+    max_shift_table(rt, "aaaa", 11)?;
+    max_shift_table(rt, "abab", 11)?;
+    max_shift_table(rt, "abcd", 11)?;
+    max_shift_table(rt, "abaab", 13)?;
+    max_shift_table(rt, "abababbbba", 23)?;
+    max_shift_table(rt, "", 3)
 }
 
 // Just enough, one entry too few, and room for the KMP entries alone.
-fn max_shift_in_little() {
-    max_shift_table(b"abca", 10);
-    max_shift_table(b"abca", 9);
-    max_shift_table(b"abca", 5);
-    max_shift_table(b"", 2);
-    max_shift_table(b"", 1);
+fn max_shift_in_little(rt: &impl Print) -> io::Result<()> {
+    max_shift_table(rt, "abca", 10)?;
+    max_shift_table(rt, "abca", 9)?;
+    max_shift_table(rt, "abca", 5)?;
+    max_shift_table(rt, "", 2)?;
+    max_shift_table(rt, "", 1)
 }
 
 // The engine of a method number by its name.
-fn name(method: u32) {
-    match method {
-        0 => io::write_all(1, b"naive"),
-        1 => io::write_all(1, b"kmp"),
-        2 => io::write_all(1, b"horspool"),
-        3 => io::write_all(1, b"sunday"),
-        4 => io::write_all(1, b"fjs"),
-        5 => io::write_all(1, b"double"),
-        6 => io::write_all(1, b"bm"),
-        7 => io::write_all(1, b"improved"),
-        _ => io::write_all(1, b"unknown"),
-    };
-}
-
-// Ends a line with the places in a list.
-fn places(list: &[u32]) {
-    let mut i = 0;
-    while i < list.len() {
-        number(wide_place(list[i]));
-        i += 1;
+fn name(method: u32) -> &'static str {
+    match Method::try_from(method) {
+        Ok(Method::Naive) => "naive",
+        Ok(Method::Kmp) => "kmp",
+        Ok(Method::Horspool) => "horspool",
+        Ok(Method::Sunday) => "sunday",
+        Ok(Method::Fjs) => "fjs",
+        Ok(Method::DoubleWindow) => "double",
+        Ok(Method::BoyerMoore) => "bm",
+        Ok(Method::ImprovedFjs) => "improved",
+        Err(_) => "unknown",
     }
-    io::write_all(1, b"\n");
 }
 
-// A find with a scratch of so many entries: the refusal, the total, the comparisons, and a list of four.
-fn found(method: u32, pattern: &[u8], text: &[u8], room: usize) {
+// Ends a line with a find in a scratch of so many entries: the refusal, the total, the comparisons, and a list of four.
+fn found(rt: &impl Print, method: u32, pattern: &[u8], text: &[u8], room: usize) -> io::Result<()> {
     let mut scratch = [9; 2306];
     let mut list = [9; 4];
-    if room <= 2306 {
-        let r = find::find(method, pattern, text, &mut scratch[..room], &mut list);
-        number(r.refusal as u64);
-        number(r.total as u64);
-        number(r.comparisons as u64);
-        places(&list);
-    }
+    let scratch = &mut scratch[..room.min(2306)];
+    let r = Finding::from(find::find(method, pattern, text, scratch, &mut list));
+    let refusal = r.refusal;
+    let total = r.total;
+    let comparisons = r.comparisons;
+    let places = Numbers { numbers: &list };
+    println!(rt; " {refusal} {total} {comparisons}{places}")
 }
 
 // A case of a few letters.
-fn case(method: u32, pattern: &[u8], text: &[u8], room: usize) {
-    name(method);
-    io::write_all(1, b" ");
-    io::write_all(1, pattern);
-    io::write_all(1, b" in ");
-    io::write_all(1, text);
-    number(room as u64);
-    found(method, pattern, text, room);
+fn case(rt: &impl Print, method: u32, pattern: &str, text: &str, room: usize) -> io::Result<()> {
+    let name = name(method);
+    print!(rt; "{name} {pattern} in {text} {room}")?;
+    found(rt, method, pattern.as_bytes(), text.as_bytes(), room)
 }
 
 // A case of m letters a in n letters a, with all the room there is.
-fn limit(method: u32, m: usize, n: usize) {
+fn limit(rt: &impl Print, method: u32, m: usize, n: usize) -> io::Result<()> {
     let pattern = [97; 1025];
     let text = [97; 32769];
-    if m <= 1025 {
-        if n <= 32769 {
-            name(method);
-            number(m as u64);
-            number(n as u64);
-            found(method, &pattern[..m], &text[..n], 2306);
-        }
-    }
+    let name = name(method);
+    print!(rt; "{name} {m} {n}")?;
+    found(
+        rt,
+        method,
+        &pattern[..m.min(1025)],
+        &text[..n.min(32769)],
+        2306,
+    )
 }
 
 // One engine: the finder's example with just enough scratch, with one entry less and with no phrase; a refrain that overlaps itself; and the limits.
-fn engine(method: u32, enough: usize) {
-    case(method, b"aba", b"ababa", enough);
+fn engine(rt: &impl Print, method: u32, enough: usize) -> io::Result<()> {
+    case(rt, method, "aba", "ababa", enough)?;
     if 0 < enough {
-        case(method, b"aba", b"ababa", enough - 1);
+        case(rt, method, "aba", "ababa", enough - 1)?;
     }
-    case(method, b"", b"ababa", enough);
-    case(method, b"lalala", b"lala lalalalala lala", 1281);
-    case(method, b"ababa", b"aba", 1281);
-    limit(method, 1024, 1030);
-    limit(method, 1025, 1030);
-    limit(method, 2, 32768);
-    limit(method, 2, 32769);
+    case(rt, method, "", "ababa", enough)?;
+    case(rt, method, "lalala", "lala lalalalala lala", 1281)?;
+    case(rt, method, "ababa", "aba", 1281)?;
+    limit(rt, method, 1024, 1030)?;
+    limit(rt, method, 1025, 1030)?;
+    limit(rt, method, 2, 32768)?;
+    limit(rt, method, 2, 32769)
+}
+
+fn engines(rt: &impl Print) -> io::Result<()> {
+    engine(rt, 0, 0)?;
+    engine(rt, 1, 4)?;
+    engine(rt, 2, 256)?;
+    engine(rt, 3, 256)?;
+    engine(rt, 4, 260)?;
+    engine(rt, 5, 256)?;
+    engine(rt, 6, 259)?;
+    engine(rt, 7, 264)?;
+    case(rt, 8, "aba", "ababa", 1281)
 }
 
 // Request (xii) of document 02: m - 1 letters a and a b in n letters a take 2n - m comparisons by KMP, m from 2 to n; one letter takes n.
-fn kmp_bound() {
-    case(1, b"aaab", b"aaaaaaaa", 1281);
-    case(1, b"aaab", b"aaaa", 1281);
-    case(1, b"ab", b"aaaaaaaa", 1281);
-    case(1, b"b", b"aaaaaaaa", 1281);
+fn kmp_bound(rt: &impl Print) -> io::Result<()> {
+    case(rt, 1, "aaab", "aaaaaaaa", 1281)?;
+    case(rt, 1, "aaab", "aaaa", 1281)?;
+    case(rt, 1, "ab", "aaaaaaaa", 1281)?;
+    case(rt, 1, "b", "aaaaaaaa", 1281)
 }
 
 // Request (ii) of document 02: the move of the text letter decides, that of the equal letters does, the letter's alone would go back; and after occurrences borders of 0, 1 and more letters.
-fn boyer_moore() {
-    case(6, b"aba", b"abcaba", 1281);
-    case(6, b"cabdab", b"yyyydbcabdab", 1281);
-    case(6, b"bba", b"ababba", 1281);
-    case(6, b"ab", b"ababab", 1281);
-    case(6, b"aabaa", b"aabaabaa", 1281);
-    case(6, b"aaaa", b"aaaaaa", 1281);
-    case(6, b"AT-THAT", b"WHICH-FINALLY-HALTS.--AT-THAT-POINT", 1281);
+fn boyer_moore(rt: &impl Print) -> io::Result<()> {
+    case(rt, 6, "aba", "abcaba", 1281)?;
+    case(rt, 6, "cabdab", "yyyydbcabdab", 1281)?;
+    case(rt, 6, "bba", "ababba", 1281)?;
+    case(rt, 6, "ab", "ababab", 1281)?;
+    case(rt, 6, "aabaa", "aabaabaa", 1281)?;
+    case(rt, 6, "aaaa", "aaaaaa", 1281)?;
+    case(
+        rt,
+        6,
+        "AT-THAT",
+        "WHICH-FINALLY-HALTS.--AT-THAT-POINT",
+        1281,
+    )
 }
 
 // Request (x) of document 02: figure 2 of source document 001; a move by md, by KMP's shift and by either after an occurrence; carried windows, whose move is KMP's; and no letter follows.
-fn improved() {
-    case(7, b"abaaca", b"abababcababbbca", 1281);
-    case(7, b"abca", b"bbbabca", 1281);
-    case(7, b"abaaca", b"abaacbabaaca", 1281);
-    case(7, b"abc", b"abcabc", 1281);
-    case(7, b"abca", b"abcabca", 1281);
-    case(7, b"aba", b"abaaba", 1281);
-    case(7, b"abaaca", b"abaacababaaca", 1281);
-    case(7, b"abaa", b"abba", 1281);
-    case(7, b"abaaca", b"abaaaa", 1281);
-    case(7, b"a", b"cabcca", 1281);
+fn improved(rt: &impl Print) -> io::Result<()> {
+    case(rt, 7, "abaaca", "abababcababbbca", 1281)?;
+    case(rt, 7, "abca", "bbbabca", 1281)?;
+    case(rt, 7, "abaaca", "abaacbabaaca", 1281)?;
+    case(rt, 7, "abc", "abcabc", 1281)?;
+    case(rt, 7, "abca", "abcabca", 1281)?;
+    case(rt, 7, "aba", "abaaba", 1281)?;
+    case(rt, 7, "abaaca", "abaacababaaca", 1281)?;
+    case(rt, 7, "abaa", "abba", 1281)?;
+    case(rt, 7, "abaaca", "abaaaa", 1281)?;
+    case(rt, 7, "a", "cabcca", 1281)
 }
 
 // Request (i) of document 02: the line and the column of each place of a text, that of its end included.
-fn lines(name: &[u8], text: &[u8]) {
-    io::write_all(1, b"lines");
-    io::write_all(1, name);
-    let mut place = 0;
-    while place <= text.len() {
-        let spot = line_column::line_column(text, place, 0, 1, 1);
-        number(spot.line as u64);
-        number(spot.column as u64);
-        place += 1;
+fn lines(rt: &impl Print, name: &str, text: &str) -> io::Result<()> {
+    print!(rt; "lines{name}")?;
+    for place in 0..=text.len() {
+        let spot = line_column::line_column(text.as_bytes(), place, 0, 1, 1);
+        let line = spot.line;
+        let column = spot.column;
+        print!(rt; " {line} {column}")?;
     }
-    io::write_all(1, b"\n");
+    println!(rt)
 }
 
 // The line and the column of a place, where a line and a column are told of another: they count where that is not past this one.
-fn known(place: usize, other: usize, line: u32, column: u32) {
-    io::write_all(1, b"known a 10 b 13 10 c 13");
-    number(place as u64);
-    number(other as u64);
-    number(line as u64);
-    number(column as u64);
+fn known(rt: &impl Print, place: usize, other: usize, line: u32, column: u32) -> io::Result<()> {
     let spot = line_column::line_column(b"a\nb\r\nc\r", place, other, line, column);
-    number(spot.line as u64);
-    number(spot.column as u64);
-    io::write_all(1, b"\n");
+    let at_line = spot.line;
+    let at_column = spot.column;
+    println!(rt; "known a 10 b 13 10 c 13 {place} {other} {line} {column} {at_line} {at_column}")
 }
 
 // A late cut of `la la la` for the phrase `la`, with the list of its places: the refusal, the total, and an answer of four.
-fn cut(start: usize, end: usize, letters: &[u8]) {
+fn cut(rt: &impl Print, start: usize, end: usize, letters: &str) -> io::Result<()> {
     let list = [0, 3, 6];
     let mut answer = [9; 4];
-    let r = late_cuts::relist(b"la", b"la la la", &list, start, end, letters, &mut answer);
-    io::write_all(1, b"cut with ");
-    io::write_all(1, letters);
-    number(start as u64);
-    number(end as u64);
-    number(r.refusal as u64);
-    number(r.number as u64);
-    places(&answer);
+    let r = Answer::from(late_cuts::relist(
+        b"la",
+        b"la la la",
+        &list,
+        start,
+        end,
+        letters.as_bytes(),
+        &mut answer,
+    ));
+    let refusal = r.refusal;
+    let number = r.number;
+    let places = Numbers { numbers: &answer };
+    println!(rt; "cut with {letters} {start} {end} {refusal} {number}{places}")
 }
 
 // One place drops out, is found again, is split in two and joined; at either end; more places than the answer has; and a stretch that is refused.
-fn cuts() {
-    cut(3, 5, b"so");
-    cut(3, 5, b"la");
-    cut(4, 4, b"-");
-    cut(1, 7, b"");
-    cut(0, 3, b"");
-    cut(8, 8, b" la");
-    cut(2, 6, b" la la la ");
-    cut(5, 3, b"");
-    cut(3, 9, b"");
+fn cuts(rt: &impl Print) -> io::Result<()> {
+    cut(rt, 3, 5, "so")?;
+    cut(rt, 3, 5, "la")?;
+    cut(rt, 4, 4, "-")?;
+    cut(rt, 1, 7, "")?;
+    cut(rt, 0, 3, "")?;
+    cut(rt, 8, 8, " la")?;
+    cut(rt, 2, 6, " la la la ")?;
+    cut(rt, 5, 3, "")?;
+    cut(rt, 3, 9, "")
 }
 
 // Each kind of ending, between letters and at the text's end.
-fn endings() {
-    lines(b"", b"");
-    lines(b" a b", b"ab");
-    lines(b" a 10 b", b"a\nb");
-    lines(b" a 13 b", b"a\rb");
-    lines(b" a 13 10 b", b"a\r\nb");
-    lines(b" a 13 13 10 b", b"a\r\r\nb");
-    lines(b" a 10 13 b", b"a\n\rb");
-    lines(b" 13 10 13 10", b"\r\n\r\n");
-    lines(b" a 10", b"a\n");
-    lines(b" a 13", b"a\r");
-    lines(b" a 13 10", b"a\r\n");
+fn endings(rt: &impl Print) -> io::Result<()> {
+    lines(rt, "", "")?;
+    lines(rt, " a b", "ab")?;
+    lines(rt, " a 10 b", "a\nb")?;
+    lines(rt, " a 13 b", "a\rb")?;
+    lines(rt, " a 13 10 b", "a\r\nb")?;
+    lines(rt, " a 13 13 10 b", "a\r\r\nb")?;
+    lines(rt, " a 10 13 b", "a\n\rb")?;
+    lines(rt, " 13 10 13 10", "\r\n\r\n")?;
+    lines(rt, " a 10", "a\n")?;
+    lines(rt, " a 13", "a\r")?;
+    lines(rt, " a 13 10", "a\r\n")
 }
 
 // Told right and wrong, of the place itself, of one before it and of one past it; and places past the text's end.
-fn places_told() {
-    known(3, 0, 1, 1);
-    known(3, 2, 2, 1);
-    known(4, 4, 2, 3);
-    known(5, 4, 2, 3);
-    known(5, 4, 9, 9);
-    known(4, 3, 9, 9);
-    known(6, 7, 9, 9);
-    known(7, 6, 3, 2);
-    known(9, 2, 2, 1);
-    known(9, 8, 5, 5);
+fn places_told(rt: &impl Print) -> io::Result<()> {
+    known(rt, 3, 0, 1, 1)?;
+    known(rt, 3, 2, 2, 1)?;
+    known(rt, 4, 4, 2, 3)?;
+    known(rt, 5, 4, 2, 3)?;
+    known(rt, 5, 4, 9, 9)?;
+    known(rt, 4, 3, 9, 9)?;
+    known(rt, 6, 7, 9, 9)?;
+    known(rt, 7, 6, 3, 2)?;
+    known(rt, 9, 2, 2, 1)?;
+    known(rt, 9, 8, 5, 5)
 }
 
 // A letter folded by a page: the refusal, and the number.
-fn fold_letter(page: u32, letter: u8) {
-    let r = fold::letter(page, letter);
-    io::write_all(1, b"fold");
-    number(page as u64);
-    number(letter as u64);
-    number(r.refusal as u64);
-    number(r.number as u64);
-    io::write_all(1, b"\n");
+fn fold_letter(rt: &impl Print, page: u32, letter: u8) -> io::Result<()> {
+    let r = Answer::from(fold::letter(page, letter).map(u32::from));
+    let refusal = r.refusal;
+    let number = r.number;
+    println!(rt; "fold {page} {letter} {refusal} {number}")
 }
 
 // Page 1's starred letters, the pairs of page 15 with some that it shares with page 1, and pages that there are not.
-fn folds() {
-    fold_letter(1, 0xC9);
-    fold_letter(1, 0xD7);
-    fold_letter(1, 0xDF);
-    fold_letter(1, 0xFF);
-    fold_letter(1, 0xBC);
-    fold_letter(15, 0xA6);
-    fold_letter(15, 0xA8);
-    fold_letter(15, 0xB4);
-    fold_letter(15, 0xB8);
-    fold_letter(15, 0xBC);
-    fold_letter(15, 0xBD);
-    fold_letter(15, 0xBE);
-    fold_letter(15, 0xFF);
-    fold_letter(15, 0xC9);
-    fold_letter(15, 0xD7);
-    fold_letter(15, 0xDF);
-    fold_letter(0, 0xC9);
-    fold_letter(2, 0xC9);
-    fold_letter(16, 0xC9);
+fn folds(rt: &impl Print) -> io::Result<()> {
+    for letter in [0xC9, 0xD7, 0xDF, 0xFF, 0xBC] {
+        fold_letter(rt, 1, letter)?;
+    }
+    for letter in [
+        0xA6, 0xA8, 0xB4, 0xB8, 0xBC, 0xBD, 0xBE, 0xFF, 0xC9, 0xD7, 0xDF,
+    ] {
+        fold_letter(rt, 15, letter)?;
+    }
+    for page in [0, 2, 16] {
+        fold_letter(rt, page, 0xC9)?;
+    }
+    Ok(())
 }
 
-fn main() {
-    tables();
-    letter_tables();
-    delta1_tables();
-    delta2_tables();
-    delta2_in_little();
-    max_shift_tables();
-    max_shift_in_little();
-    engine(0, 0);
-    engine(1, 4);
-    engine(2, 256);
-    engine(3, 256);
-    engine(4, 260);
-    engine(5, 256);
-    engine(6, 259);
-    engine(7, 264);
-    case(8, b"aba", b"ababa", 1281);
-    kmp_bound();
-    boyer_moore();
-    improved();
-    cuts();
-    endings();
-    places_told();
-    folds();
+fn main(rt: HostRuntime) -> io::Result<()> {
+    tables(&rt)?;
+    letter_tables(&rt)?;
+    delta1_tables(&rt)?;
+    delta2_tables(&rt)?;
+    delta2_in_little(&rt)?;
+    max_shift_tables(&rt)?;
+    max_shift_in_little(&rt)?;
+    engines(&rt)?;
+    kmp_bound(&rt)?;
+    boyer_moore(&rt)?;
+    improved(&rt)?;
+    cuts(&rt)?;
+    endings(&rt)?;
+    places_told(&rt)?;
+    folds(&rt)
 }
