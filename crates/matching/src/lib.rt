@@ -143,7 +143,7 @@ pub fn compare_up(pattern: &[u8], text: &[u8]) -> usize
 }
 
 // Compares last to first, from letter `count` of the pattern down: how many letters are equal. It compares none where the pattern or the
-// text has no such letters.
+// text has no such letters. It counts up those that are equal, since a range that goes down takes up to twice as long here.
 pub fn compare_down(pattern: &[u8], text: &[u8], start: usize, count: usize) -> usize
     ensures value { result ≡ compared_down pattern.now text.now start count }
     ensures within { result ≤ count }
@@ -157,9 +157,10 @@ pub fn compare_down(pattern: &[u8], text: &[u8], start: usize, count: usize) -> 
     if text.len() - count < start {
         return 0;
     }
-    for k in (0..count).rev() {
+    for equal in 0..count {
+        let k = count - equal - 1;
         if pattern[k] != text[start + k] {
-            return count - 1 - k;
+            return equal;
         }
     }
     count
