@@ -54,6 +54,8 @@ fn larger(pattern: &[u8], text: &[u8], scratch: &[u16], s: usize, k: usize) -> u
 }
 
 // Finds the pattern in the text; the scratch holds 256 DELTA1 entries and then DELTA2 of 1 to m afterwards.
+// The compiler keeps it by itself: as a part of one function with the other engines its loop has too few registers.
+#[inline(never)]
 pub fn find(
     pattern: &[u8],
     text: &[u8],

@@ -77,34 +77,27 @@ module _ {P T scratch : List ℕ} {place : ℕ} (r : Ready P T scratch place) wh
         let e = sunday-reads P (get_or T (s + length P) 0) (sundays r) byte in
         rw z (going (sunday-goes s (gap-differs z differs) more e) (omega (arith, e.most)))
 
-    -- the comparing left to right found `equal` letters equal; where nothing is carried, letter mdp is equal, and looking at it was 1 - q looks more. So the window reports, or it does not; and it is
+    -- the comparing left to right reached letter k; where nothing is carried, letter mdp is equal, and looking at it was 1 - q looks more. So the window reports, or it does not; and it is
     -- moved by d, MAX_Shift where nothing is carried, and else KMP's shift
-    module _ {equal j t c d q' : ℕ} {l : List ℕ} (fresh : q ≡ 0 → get_or P place 0 ≡ get_or T (s + place) 0)
-        (long : length P - q ≤ j) (is : equal ≡ equal_pairs (take (length P - q) (drop q P)) (take j (drop (s + q) T)))
-        (part : q + equal < length P → (l ≡ list) × ((t ≡ total) × (c ≡ compared + (1 - q) + equal + 1)))
-        (all : length P ≤ q + equal → (l ≡ set list total s) × ((t ≡ total + 1) × (c ≡ compared + (1 - q) + equal)))
-        (by-border : 0 < q → d ≡ q + equal + 1 - get_or scratch (256 + (q + equal)) 0) (by-gap : q ≡ 0 → d ≡ get_or scratch (256 + (length P + 1) + (q + equal)) 0)
-        (keeps : q' ≡ q + equal - d) where
-      k : ℕ
-      k = q + equal
-
-      reached : k ≡ reach P T s q
-      unfolding k
-      reached = reach-compared P T s q (omega (arith, g.part)) long is
+    module _ {k t c d q' : ℕ} {l : List ℕ} (fresh : q ≡ 0 → get_or P place 0 ≡ get_or T (s + place) 0) (reached : k ≡ reach P T s q)
+        (part : k < length P → (l ≡ list) × ((t ≡ total) × (c ≡ compared + (1 - q) + (k - q) + 1)))
+        (all : length P ≤ k → (l ≡ set list total s) × ((t ≡ total + 1) × (c ≡ compared + (1 - q) + (k - q))))
+        (by-border : 0 < q → d ≡ k + 1 - get_or scratch (256 + k) 0) (by-gap : q ≡ 0 → d ≡ get_or scratch (256 + (length P + 1) + k) 0)
+        (keeps : q' ≡ k - d) where
+      from : q ≤ k
+      from = omega (arith, reached)
 
       upto : k ≤ length P
       upto = omega (arith, reached, reach-le P T s q (omega (arith, g.part)))
 
       from-carried : 0 < q → Progress improved_fjs P T list₀ (kmp_move P s k) t c l
-      unfolding k
       from-carried h =
           rw reached
           (stepped-up g.run.progress inside (window-carried P T s q h) reached upto
-          (λ x. let w = part x in (w.0, (w.1.0, omega (arith, w.1.1, h))))
-          (λ x. let w = all x in (w.0, (w.1.0, omega (arith, w.1.1, h)))))
+          (λ x. let w = part x in (w.0, (w.1.0, omega (arith, w.1.1, h, from))))
+          (λ x. let w = all x in (w.0, (w.1.0, omega (arith, w.1.1, h, from)))))
 
       from-none : q ≡ 0 → Progress improved_fjs P T list₀ (max_move P s k) t c l
-      unfolding k
       from-none z =
           let e = ap (reach P T s) (sym z) ∙ sym reached in
           let w = window-fresh P T s (is-gap (fresh z)) in
@@ -118,10 +111,9 @@ module _ {P T scratch : List ℕ} {place : ℕ} (r : Ready P T scratch place) wh
           let x = all h in
           let looks = looks-all (length P - 0) (equal_on P T s 0) (omega (arith, upto)) in
           rw (x.0, x.1.0) (reported-as (at_none z) inside w (omega (arith, x.1.1, z, upto, looks)) (eq-eqb (reach P T s 0) (length P) (omega (arith, upto)))))
-          (cases_lt (q + equal) (length P)))
+          (cases_lt k (length P)))
 
       pub moved : Going P T list₀ (s + d) q' t c l
-      unfolding k
       moved =
           ⊎_elim
           (λ h.

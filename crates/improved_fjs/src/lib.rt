@@ -5,6 +5,7 @@
 
 ghost use Rattle.std.specs.Prelude.{◌≡◌, ◌+◌, ◌≤◌, length};
 ghost use Rattle.letter_tables.specs.Gaps.{widest_gap};
+ghost use Rattle.matching.specs.Letters.{reach};
 ghost use Rattle.matching.specs.Received.{received};
 ghost use Rattle.matching.specs.Find.{Found};
 ghost use Rattle.matching.specs.Results.{finding};
@@ -23,6 +24,23 @@ fn make_tables(pattern: &[u8], scratch: &mut [u16]) -> Gap
 {
     letter_tables::sunday_table(pattern, &mut scratch[..256]);
     border_tables::max_shift_table(pattern, &mut scratch[256..])
+}
+
+// How many letters of the window at s are equal from its start on, where its first q are carried. Tried: `matching::compare_up`, which is handed the letters that are left. It takes up to half as long
+// again here, since where they begin and how many they are is computed for each window.
+fn reach(pattern: &[u8], text: &[u8], s: usize, q: usize) -> usize
+    requires inside { s + length pattern.now ≤ length text.now }
+    requires part { q ≤ length pattern.now }
+    ensures value { result ≡ reach pattern.now text.now s q }
+    ensures from { q ≤ result }
+    ensures within { result ≤ length pattern.now }
+{
+    for k in q..pattern.len() {
+        if pattern[k] != text[s + k] {
+            return k;
+        }
+    }
+    pattern.len()
 }
 
 // Finds all occurrences. The window starts at s, its first q letters are carried, and letter mdp stands at the place `gap` of the pattern.
@@ -48,9 +66,8 @@ fn search(pattern: &[u8], text: &[u8], scratch: &[u16], gap: usize, list: &mut [
                 continue;
             }
         }
-        let equal = matching::compare_up(&pattern[q..], &text[s + q..s + m]);
-        let k = q + equal;
-        compared += equal;
+        let k = reach(pattern, text, s, q);
+        compared += k - q;
         if k < m {
             compared += 1;
         } else {
@@ -72,6 +89,8 @@ fn search(pattern: &[u8], text: &[u8], scratch: &[u16], gap: usize, list: &mut [
 }
 
 // Finds the pattern in the text; the scratch holds 256 Sunday entries, the KMP entries b[1] to b[m + 1] and MAX_Shift[1] to MAX_Shift[m + 1] afterwards.
+// The compiler keeps it by itself: as a part of one function with the other engines its loop has too few registers.
+#[inline(never)]
 pub fn find(
     pattern: &[u8],
     text: &[u8],

@@ -9,6 +9,8 @@ ghost use Rattle.naive.specs.Naive.{naive};
 use matching::{Refusal, Tally};
 
 // Finds the pattern in the text; the scratch is not needed, and is left as it was.
+// The compiler keeps it by itself: as a part of one function with the other engines its loop has too few registers.
+#[inline(never)]
 pub fn find(
     pattern: &[u8],
     text: &[u8],

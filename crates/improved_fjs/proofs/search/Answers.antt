@@ -16,15 +16,15 @@ loop-s-preserved-then-first-text c =
     jumped c.requires c.loop-s.invariant (omega arith) c.if-q-eq0.true c.if-first-text.true (omega arith) (omega (arith, c.type_inv.text (c.loop-s.s + length c.args.pattern.now)))
 
 pub overflow_sub-shift : goal.overflow_sub-shift
-overflow_sub-shift c = omega (arith, kmp-most c.requires (c.loop-s.q + c.compare_up-equal.result) (omega arith))
+overflow_sub-shift c = omega (arith, kmp-most c.requires c.reach-k.result (omega arith))
 
 pub loop-s-smaller : goal.loop-s-smaller
 loop-s-smaller c =
-    shift-ends c.requires c.loop-s.q (c.loop-s.q + c.compare_up-equal.result) c.loop-s.s (length c.args.text.now + 1) (omega arith) (omega arith) (λ h. grind (arith, h)) (λ h. grind (arith, h))
+    shift-ends c.requires c.loop-s.q c.reach-k.result c.loop-s.s (length c.args.text.now + 1) (omega arith) (omega arith) (λ h. grind (arith, h)) (λ h. grind (arith, h))
 
 pub loop-s-preserved : goal.loop-s-preserved
 loop-s-preserved c =
-    moved c.requires c.loop-s.invariant (omega arith) (λ h. grind (arith, h)) (omega arith) c.compare_up-equal.ensures.value (λ h. grind (arith, h)) (λ h. grind (arith, h)) (λ h. grind (arith, h)) (λ h. grind (arith, h)) c.saturating_sub-q.ensures
+    moved c.requires c.loop-s.invariant (omega arith) (λ h. grind (arith, h)) c.reach-k.ensures.value (λ h. grind (arith, h)) (λ h. grind (arith, h)) (λ h. grind (arith, h)) (λ h. grind (arith, h)) c.saturating_sub-q.ensures
 
 pub returns : goal.returns
 returns c = searched c.requires c.loop-s.invariant (λ h. grind (arith, h)) (λ h. grind (arith, h)) (λ h e. grind (arith, h, e))
