@@ -232,8 +232,10 @@ fn base_row(t: &mut [u16], w: usize, s: usize)
         t[to..to + w].fill(0);
     } else {
         let from = ROWS + w * t[STATE * s + FAIL] as usize;
-        let (before, row) = t.split_at_mut(to);
-        row[..w].copy_from_slice(&before[from..from + w]);
+        // by a loop, since `copy_from_slice` calls `memmove`, which an archive for C is not to need
+        for k in 0..w {
+            t[to + k] = t[from + k];
+        }
     }
 }
 

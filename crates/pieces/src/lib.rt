@@ -15,6 +15,9 @@ pub fn put_bytes(buffer: &mut [u8], at: usize, piece: &[u8]) -> usize
     if buffer.len() - piece.len() < at {
         return at;
     }
-    buffer[at..at + piece.len()].copy_from_slice(piece);
+    // By a loop, since `copy_from_slice` calls `memmove`, which an archive for C is not to need.
+    for i in 0..piece.len() {
+        buffer[at + i] = piece[i];
+    }
     at + piece.len()
 }
