@@ -4,6 +4,7 @@
 #![tactic(auto)]
 
 ghost use Rattle.std.specs.Prelude.{◌≡◌, ◌≤◌, length};
+ghost use Rattle.matching.specs.Results.{refused_by};
 ghost use Rattle.cue_fields.specs.Field.{bytes_in};
 ghost use Rattle.cues.specs.Cue.{days_from, mark_from, days_hold, sees, is_chosen};
 ghost use Rattle.cues.specs.Places.{CueRead};
@@ -153,4 +154,14 @@ pub fn read_cue(book: &[u8], place: usize) -> Result<Cue, Refusal>
         mark: rest.mark,
         end: rest.end,
     })
+}
+
+// The refusal's number of a cue that was asked for, 0 for a cue.
+pub fn cue_number(answer: Result<Cue, Refusal>) -> u32
+    ensures { result ≡ refused_by answer }
+{
+    match answer {
+        Ok(_) => 0,
+        Err(refusal) => refusal.into(),
+    }
 }
