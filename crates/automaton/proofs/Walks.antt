@@ -99,21 +99,22 @@ walking_done {t} {w} {count} {T} {lens} {left₀} {place₀} {left} {place} {s} 
       comes = ap (λ l. counts i lens (numbers (step_on t w count) s l) (record { left = left; place = place })) (sym (drop_of_length-le T h)) ∙ v.same;
     }
 
+-- the letters read, with one more
+one_more : (T : List ℕ) (i : ℕ) → i < length T → take (suc i) T ≡ take i T ++ (get_or T i 0 ∷ [])
+one_more T i h = take-suc T i 0 h
+
 module _ {t T left₀ place₀ left place lens : List ℕ} {w count s i : ℕ} (p : Ahead t w count T lens left₀ place₀) (v : Walking t w count T lens left₀ place₀ left place s i) where
   pub walking_stands : Standing t w count s
   walking_stands = record { phrases = p.phrases; names = p.names; rowed = p.rowed; inside = (v.at p.phrases p.names p.rowed).0 }
 
   module _ (h : i < length T) (byte : get_or T i 0 < 256) {s' e : ℕ} (read : (s' ≡ (step_on t w count s (get_or T i 0)).state) × (e ≡ (step_on t w count s (get_or T i 0)).ended)) where
-    one_more : take (suc i) T ≡ take i T ++ (get_or T i 0 ∷ [])
-    one_more = take-suc T i 0 h
-
     -- the number is that of the phrases that end with the letter
     number : e ≡ ended p.phrases (take (suc i) T)
     number =
         let ps : List (List ℕ) = p.phrases in
         let a = v.at ps p.names p.rowed in
         read.1 ∙ step-ended p.rowed s (get_or T i 0) a.0 byte ∙ ap (λ n. ended ps (next ps n (get_or T i 0))) a.1 ∙ ap (ended ps) (sym (state-on ps (take i T) (get_or T i 0)))
-        ∙ ended-state ps (take i T ++ (get_or T i 0 ∷ [])) ∙ ap (ended ps) (sym one_more)
+        ∙ ended-state ps (take i T ++ (get_or T i 0 ∷ [])) ∙ ap (ended ps) (sym (one_more T i h))
 
     pub walking_counters : Counters e (i + 1) lens left place
     walking_counters =
@@ -149,5 +150,5 @@ module _ {t T left₀ place₀ left place lens : List ℕ} {w count s i : ℕ} (
           at = λ ps names r.
               let a = v.at ps names r in
               let n = step_is r s (get_or T i 0) a.0 byte in
-              rw read.0 (n.inside, n.is ∙ ap (λ n. next ps n (get_or T i 0)) a.1 ∙ sym (state-on ps (take i T) (get_or T i 0)) ∙ ap (state ps) (sym one_more));
+              rw read.0 (n.inside, n.is ∙ ap (λ n. next ps n (get_or T i 0)) a.1 ∙ sym (state-on ps (take i T) (get_or T i 0)) ∙ ap (state ps) (sym (one_more T i h)));
         })

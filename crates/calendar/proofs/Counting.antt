@@ -64,8 +64,14 @@ unfolding years_days
 years-up i j h = sums-up years_days (λ k. omega arith) i j h
 
 -- so a smaller sum is that of fewer
+fewer : (f : ℕ → ℕ) → ((i j : ℕ) → i ≤ j → f i ≤ f j) → (i j : ℕ) → f i < f j → i < j
+fewer f up i j h = by-test (λ _. i < j) (ltb i j) (ltb-true i j) (λ t. absurd (omega (arith, up j i (ltb-false i j t))))
+
+pub months-fewer : (year i j : ℕ) → months_days year i < months_days year j → i < j
+months-fewer year i j h = fewer (months_days year) (months-up year) i j h
+
 pub years-fewer : (i j : ℕ) → years_days i < years_days j → i < j
-years-fewer i j h = by-test (λ _. i < j) (ltb i j) (ltb-true i j) (λ t. absurd (omega (arith, years-up j i (ltb-false i j t))))
+years-fewer i j h = fewer years_days years-up i j h
 
 -- the years 2000 to 2099 have 36,525 days
 pub all-days : years_days 100 ≡ suc last_day

@@ -30,7 +30,11 @@ module _ (day : ℕ) where
       h
 
 module _ (first last : ℕ) where
-  -- a first and a last day that are not refused are in their order and in the calendar
+  -- a first and a last day that are not refused are in their order and in the calendar, and back
   pub days-passed : days_refusal first last ≡ 0 → (first ≤ last) × (last ≤ last_day)
   unfolding days_refusal Passed numbers_to
   days-passed e = let p = all-passed 16 (days_tests first last) refl e in (ltb-false last first p.1.1.0, ltb-false last_day last p.1.0)
+
+  pub days-pass : first ≤ last → last ≤ last_day → days_refusal first last ≡ 0
+  unfolding days_refusal first_met
+  days-pass order h = rw (le-ltb last_day first (omega arith), le-ltb last_day last h, le-ltb last first order)

@@ -8,11 +8,11 @@ use lib.ListN.{length, get_or, take, drop, length-drop}
 use lib.Seq.{drop-drop}
 use lib.Dec.{eqb}
 use borrow.Author.Tests.{eq-eqb, ne_eqb, eqb-true, ltb-false, lt-ltb, le-ltb}
-use Rattle.std.specs.Prelude.{Ok, Err}
+use Rattle.std.specs.Prelude.{Result, Ok, Err}
 use Rattle.matching.specs.declared.refusal.Refusal.{Refusal}
 use Rattle.matching.specs.declared.refusal.Refusal.TheVariants.{UnknownMethod, NoPhrase, LongPhrase, LongText, ShortScratch, ShortBuffer, CutField, WrongTag, BadField, LongBook, ShortEntries, NoOccurrence, LongCue, UnknownPage, NotForward, BadDate, BadStretch, BadList, NotAllowed}
 use Rattle.matching.specs.Refusals.{first_met}
-use Rattle.matching.specs.Results.{number_of}
+use Rattle.matching.specs.Results.{number_of, refused_by}
 use Rattle.matching.proofs.Find.{number-some}
 use Rattle.matching.proofs.Refusals.{Passed, none-met, numbers_to, all-passed, gapped, met-gap}
 use Rattle.cue_fields.specs.declared.Due.{Due}
@@ -147,6 +147,20 @@ pub record BodyAt (book : List ℕ) (place : ℕ) (due : Due) (s : Span) : Type 
   pub is : s ≡ span (place + 3) (place + field_size (drop place book))
   pub body : bytes_in book s ≡ field_body (drop place book)
 
+-- what an answer means is a list of one or none: its first, or else that other
+unfoldable pub first_of : {A : Type 0} → A → List A → A
+first_of other [] = other
+first_of other (x ∷ xs) = x
+
+-- where the body that was read starts and ends, 0 for a refusal
+unfoldable pub start_of : Result Span Refusal → ℕ
+start_of (Ok s) = s.start
+start_of (Err r) = 0
+
+unfoldable pub end_of : Result Span Refusal → ℕ
+end_of (Ok s) = s.end
+end_of (Err r) = 0
+
 pub body_at : {book : List ℕ} {place : ℕ} {due : Due} {s : Span} → FieldRead book place due (Ok s) → BodyAt book place due s
 unfolding field_at
 body_at {book} {place} {due} {s} read =
@@ -155,6 +169,10 @@ body_at {book} {place} {due} {s} read =
     let same : Ok s ≡ Ok (span (place + 3) (place + field_size (drop place book))) = read.answer ∙ rw on in
     let meant : bytes_in book s ∷ [] ≡ field_body (drop place book) ∷ [] = read.meant ∙ rw on in
     record { none = none; is = cc; body = cc }
+
+-- it was refused: the number is the refusal's
+pub refused-some : {r : Result Span Refusal} {refusal : Refusal} → r ≡ Err refusal → refused_by r ≡ 0 → ⊥
+refused-some {r} {refusal} e z = let is : refused_by r ≡ number_of refusal = ap refused_by e in omega (arith, z, is, number-some refusal)
 
 -- the body lies in the book, and its start is no later than its end
 pub body-inside : {book : List ℕ} {place : ℕ} {due : Due} {s : Span} → BodyAt book place due s → (s.start ≤ s.end) × (s.end ≤ length book)

@@ -45,6 +45,11 @@ pub record DueAt (book : List ℕ) (place : ℕ) (due : Due) (s : Span) : Type 0
   pub inside : stands due (drop place book) ≡ true → s.end ≤ length book
   pub no-further : place ≤ length book → s.end ≤ length book
 
+-- a field that does not stand there is the empty one
+pub passed_over : {book : List ℕ} {place : ℕ} {due : Due} {r : Result Span Refusal} → DueRead book place due r → stands due (drop place book) ≡ false → r ≡ Ok (span place place)
+unfolding due_at
+passed_over read s = read.answer ∙ rw s
+
 module _ {book : List ℕ} {place : ℕ} {due : Due} {s : Span} (read : DueRead book place due (Ok s)) where
   -- it stands there, so that it was read
   field-read : stands due (drop place book) ≡ true → FieldRead book place due (Ok s)
@@ -53,9 +58,8 @@ module _ {book : List ℕ} {place : ℕ} {due : Due} {s : Span} (read : DueRead 
       let m = standing due (drop place book) t in
       record { answer = read.answer ∙ rw t; number = read.number ∙ m.0; meant = read.meant ∙ rw (m.0, m.2) }
 
-  passed_over : stands due (drop place book) ≡ false → s ≡ span place place
-  unfolding due_at
-  passed_over t = let same : Ok s ≡ Ok (span place place) = read.answer ∙ rw t in cc
+  empty : stands due (drop place book) ≡ false → s ≡ span place place
+  empty t = let same : Ok s ≡ Ok (span place place) = passed_over read t in cc
 
   pub due-at : DueAt book place due s
   due-at =
@@ -75,7 +79,7 @@ module _ {book : List ℕ} {place : ℕ} {due : Due} {s : Span} (read : DueRead 
       })
       (λ _ t.
       let m = left_out due (drop place book) t in
-      let is = passed_over t in
+      let is = empty t in
       let no : place - place ≡ 0 = omega arith in
       record {
         none = m.0;

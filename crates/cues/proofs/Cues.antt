@@ -6,7 +6,7 @@ use mathlib.Core.List.{List, [], ◌∷◌}
 use lib.ListN.{length, drop, length-drop}
 use lib.Dec.{leb}
 use borrow.Author.Tests.{eq-eqb, ne_eqb, leb-true}
-use Rattle.std.specs.Prelude.{Ok, Err}
+use Rattle.std.specs.Prelude.{Result, Ok, Err}
 use Rattle.matching.specs.declared.refusal.Refusal.{Refusal}
 use Rattle.matching.specs.Results.{number_of}
 use Rattle.matching.proofs.CaseAnalysis.{both}
@@ -143,6 +143,23 @@ pub record CueAt (book : List ℕ) (place : ℕ) (c : found.Cue) : Type 0 where
   pub none : cue_refusal (drop place book) ≡ 0
   pub is : c ≡ cue_placed place (drop place book)
   pub meant : cue_meant book c ≡ cue_of (drop place book)
+
+-- where the phrase and the title of an answer start and end, 0 for a refusal
+pub phrase_of : Result found.Cue Refusal → ℕ
+phrase_of (Ok c) = c.phrase.start
+phrase_of (Err r) = 0
+
+pub end_of_phrase : Result found.Cue Refusal → ℕ
+end_of_phrase (Ok c) = c.phrase.end
+end_of_phrase (Err r) = 0
+
+pub title_of : Result found.Cue Refusal → ℕ
+title_of (Ok c) = c.title.start
+title_of (Err r) = 0
+
+pub title_stops : Result found.Cue Refusal → ℕ
+title_stops (Ok c) = c.title.end
+title_stops (Err r) = 0
 
 pub cue-at : {book : List ℕ} {place : ℕ} {c : found.Cue} → CueRead book place (Ok c) → CueAt book place c
 unfolding cue_at

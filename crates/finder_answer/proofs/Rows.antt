@@ -36,29 +36,32 @@ entries-enough DoubleWindow m k = omega arith
 entries-enough BoyerMoore m k = omega arith
 entries-enough ImprovedFjs m k = omega arith
 
-accepted : (method : Method) (P T scratch : List ℕ) → length scratch ≡ 2306 → refusal (length P) (length T) 0 0 ≡ 0 → refusal_of (engine_by method) P T scratch ≡ 0
-accepted method P T scratch long none =
+accepted : (e : Engine) (P T scratch : List ℕ) → (length P ≤ 1024 → e.entries (length P) ≤ 2306) → length scratch ≡ 2306 → refusal (length P) (length T) 0 0 ≡ 0 → refusal_of e P T scratch ≡ 0
+accepted e P T scratch enough long none =
     let limits = within (length P) (length T) 0 0 none in
-    none-refused (length P) (length T) (length scratch) ((engine_by method).entries (length P))
-    (record { some = limits.some; short = limits.short; small = limits.small; room = omega (arith, entries-enough method (length P) limits.short) })
+    none-refused (length P) (length T) (length scratch) (e.entries (length P)) (record { some = limits.some; short = limits.short; small = limits.small; room = omega (arith, enough limits.short) })
 
 -- so no find is refused
 pub found-some : (method : Method) (e : Refusal) {P T scratch list : List ℕ} {scratch' list' : List ℕ} → Found (engine_by method) P T scratch list (finding (Err e)) scratch' list' → length scratch ≡ 2306
     → refusal (length P) (length T) 0 0 ≡ 0 → ⊥
-found-some method e {P} {T} {scratch} f long none = omega (arith, number-some e, ap (λ (x : Finding). x.refusal) (found-answer f (accepted method P T scratch long none)))
+found-some method e {P} {T} {scratch} f long none =
+    omega (arith, number-some e, ap (λ (x : Finding). x.refusal) (found-answer f (accepted (engine_by method) P T scratch (entries-enough method (length P)) long none)))
 
--- the line of what a find gave and left is the engine's
-pub found-line : (method : Method) {P T scratch list : List ℕ} {t : Tally} {scratch' list' : List ℕ} (name : List ℕ) → Found (engine_by method) P T scratch list (finding (Ok t)) scratch' list'
-    → length scratch ≡ 2306 → length list ≡ 4096 → refusal (length P) (length T) 0 0 ≡ 0
-    → line_of name t.total t.comparisons list' ≡ engine_line (record { name = name; engine = engine_by method }) P T
+-- the line of what a find gave and left is the engine's, whichever engine has entries enough
+pub engine-found : (e : Engine) {P T scratch list : List ℕ} {r : Finding} {scratch' list' : List ℕ} (name : List ℕ) → (length P ≤ 1024 → e.entries (length P) ≤ 2306) → Found e P T scratch list r scratch' list'
+    → length scratch ≡ 2306 → length list ≡ 4096 → refusal (length P) (length T) 0 0 ≡ 0 → line_of name r.total r.comparisons list' ≡ engine_line (record { name = name; engine = e }) P T
 unfolding engine_line line_of
-found-line method {P} {T} {scratch} {list} {t} {scratch'} {list'} name f long places none =
-    let e : Engine = engine_by method in
+engine-found e {P} {T} {scratch} {list} {r} {scratch'} {list'} name enough f long places none =
     let found : List ℕ = occurrences P T in
-    let free = accepted method P T scratch long none in
+    let free = accepted e P T scratch enough long none in
     ap₂ (λ (x : Finding) (l : List ℕ). line_of name x.total x.comparisons l) (found-answer f free) (found-listed f free)
     ∙ ap (λ (l : List (List ℕ)). name ∷ field (length found) ∷ field (compared e P T) ∷ (l ++ ((10 ∷ []) ∷ [])))
     (fields-received list found ∙ ap (λ (n : ℕ). fields (length found) (take n found)) places)
+
+pub found-line : (method : Method) {P T scratch list : List ℕ} {t : Tally} {scratch' list' : List ℕ} (name : List ℕ) → Found (engine_by method) P T scratch list (finding (Ok t)) scratch' list'
+    → length scratch ≡ 2306 → length list ≡ 4096 → refusal (length P) (length T) 0 0 ≡ 0
+    → line_of name t.total t.comparisons list' ≡ engine_line (record { name = name; engine = engine_by method }) P T
+found-line method {P} name f long places none = engine-found (engine_by method) name (entries-enough method (length P)) f long places none
 
 -- as many rows as the code goes through
 pub row_count : length rows ≡ 8

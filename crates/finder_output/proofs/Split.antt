@@ -43,24 +43,33 @@ pub record Split (input : List ℕ) (end start : ℕ) : Type 0 where
   pub phrase : take end input ≡ phrase_in input
   pub text : take (length input - start) (drop start input) ≡ text_in input
 
--- the text starts after the byte that ends the phrase, or at the input's end where there is none
-pub split_at : {input : List ℕ} {end start : ℕ} → end ≡ length (phrase_in input) → start ≡ min (end + 1) (length input) → Split input end start
-split_at {input} {end} {start} e s =
+pub split_at : {input : List ℕ} {end start : ℕ} → end ≡ length (phrase_in input) → start ≤ length input → drop start input ≡ drop (suc end) input → Split input end start
+split_at {input} {end} {start} e inside same =
     record {
       ends = omega (arith, phrase-within input);
-      starts = omega arith;
+      starts = inside;
       phrase = ap (λ (n : ℕ). take n input) e ∙ sym (phrase-is input);
       text =
           take_all (length input - start) (drop start input) (omega (arith, length-drop start input)) ∙ same ∙ ap (λ (n : ℕ). drop (suc n) input) e ∙ sym (text-is input);
     }
-  where
-    same : drop start input ≡ drop (suc end) input
-    same =
-        by-test (λ _. drop start input ≡ drop (suc end) input) (leb (suc end) (length input))
-        (λ t. let h : suc end ≤ length input = leb-true (suc end) (length input) t in let is : start ≡ suc end = omega arith in ap (λ (n : ℕ). drop n input) is)
-        (λ t.
-        let h : length input < suc end = leb-false (suc end) (length input) t in
-        drop_of_length-le input {i = start} (omega arith) ∙ sym (drop_of_length-le input {i = suc end} (omega arith)))
+
+-- the text starts after the byte that ends the phrase, or at the input's end where there is none
+pub split-min : {input : List ℕ} {end start : ℕ} → end ≡ length (phrase_in input) → start ≡ min (end + 1) (length input) → Split input end start
+split-min {input} {end} {start} e s =
+    split_at e (omega arith)
+    (by-test (λ _. drop start input ≡ drop (suc end) input) (leb (suc end) (length input))
+    (λ t. let h : suc end ≤ length input = leb-true (suc end) (length input) t in let is : start ≡ suc end = omega arith in ap (λ (n : ℕ). drop n input) is)
+    (λ t.
+    let h : length input < suc end = leb-false (suc end) (length input) t in
+    drop_of_length-le input {i = start} (omega arith) ∙ sym (drop_of_length-le input {i = suc end} (omega arith))))
+
+-- i bytes of the phrase are passed, and the rest of its length is that of the phrase in what is left
+pub record Passed (input : List ℕ) (i : ℕ) : Type 0 where
+  pub inside : i ≤ length input
+  pub rest : length (phrase_in input) ≡ i + length (phrase_in (drop i input))
+
+pub passed_none : (input : List ℕ) → Passed input 0
+passed_none input = record { inside = omega arith; rest = omega arith }
 
 -- the phrase's length in the library's words: the place of the first byte 10, or the input's length
 pub end_is : (input : List ℕ) {found : Option ℕ} {end : ℕ} → found ≡ position (λ (byte : ℕ). byte == 10) input → end ≡ unwrap_or found (length input) → end ≡ length (phrase_in input)

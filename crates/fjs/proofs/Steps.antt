@@ -1,7 +1,7 @@
 -- One window of the search, as its code goes through it: the last letter first where nothing is carried, then left to right up to a letter `until`; and the move by the tables' entries, noted or not.
 -- Assumes nothing.
 use mathlib.Core.Path.{◌≡◌, refl, sym, ap, subst, ◌∙◌}
-use mathlib.Core.Logic.{⊎_elim}
+use mathlib.Core.Logic.{◌⊎◌, inl, inr, ⊎_elim}
 use Prim.Native.Nat.{ℕ, ◌+◌, ◌-◌, ◌≤◌, ◌<◌, min}
 use native.Mathlib.Omega.{arith}
 use mathlib.Core.List.{List, []}
@@ -9,7 +9,7 @@ use lib.ListN.{length, get_or, set, take, drop}
 use borrow.Author.Tests.{eq-eqb, ne_eqb}
 use Rattle.std.proofs.lemmas.Bool.{cases_lt}
 use Rattle.matching.specs.Letters.{equal_pairs, reach}
-use Rattle.matching.specs.Machine.{State, at, run_from}
+use Rattle.matching.specs.Machine.{State, stop, at, run_from}
 use Rattle.matching.proofs.CaseAnalysis.{at_same}
 use Rattle.matching.proofs.Letters.{reach-until, reach-le, reach-differs, looks-part, looks-all}
 use Rattle.matching.proofs.Machine.{run-off, run-stop}
@@ -21,12 +21,56 @@ use Rattle.border_tables.specs.Moves.{kmp_move}
 use Rattle.border_tables.proofs.Kmp.{kmp-reads}
 use Rattle.border_tables.proofs.Moves.{kmp-next, kmp-goes}
 use Rattle.fjs_steps.specs.Fjs.{sunday, kmp, step, window, fjs}
-use Rattle.fjs_steps.specs.Moves.{moves, told}
+use Rattle.fjs_steps.specs.Moves.{moves, told, put_move}
 use Rattle.fjs_steps.specs.Scratch.{Ready}
 use Rattle.fjs_steps.proofs.Sound.{step_end, step-fresh, step-carried, window-end, window-carried, window-fresh, sound}
 use Rattle.fjs_steps.proofs.Moves.{Noted, noted-none, noted-stop, noted_more, all-noted}
+use Rattle.fjs_steps.proofs.MoveLists as lists
 use Rattle.fjs_steps.proofs.Scratch.{sundays, kmps, limits}
 use Rattle.fjs.specs.Search.{Searched}
+
+module _ {P T list₀ : List ℕ} {s q total compared : ℕ} {list : List ℕ} (p : Progress fjs P T list₀ (at s q) total compared list) (inside : s + length P ≤ length T) where
+  -- nothing is carried, so the state is one that carries nothing
+  at_none : q ≡ 0 → Progress fjs P T list₀ (at s 0) total compared list
+  at_none z = subst (λ n. Progress fjs P T list₀ (at s n) total compared list) z p
+
+  -- nothing is carried and the last letter differs: one look, and Sunday's move
+  pub end-differs : q ≡ 0 → (get_or P (length P - 1) 0 ≡ get_or T (s + (length P - 1)) 0 → ⊥) → Progress fjs P T list₀ (sunday_move P T s) total (compared + 1) list
+  end-differs z differs = missed-as (at_none z) inside (window-end P T s differs) refl refl
+
+  end-next : q ≡ 0 → (get_or P (length P - 1) 0 ≡ get_or T (s + (length P - 1)) 0 → ⊥) → (window P T s q).next ≡ sunday_move P T s
+  end-next z differs = rw z (ap (λ v. v.next) (window-end P T s differs))
+
+  end-rule : q ≡ 0 → (get_or P (length P - 1) 0 ≡ get_or T (s + (length P - 1)) 0 → ⊥) → (step P T s q).rule ≡ sunday
+  end-rule z differs = rw z (ap (λ x. x.rule) (step_end P T s differs))
+
+  pub end-noted : {s' q' count : ℕ} {noted₀ noted : List ℕ} → q ≡ 0 → (get_or P (length P - 1) 0 ≡ get_or T (s + (length P - 1)) 0 → ⊥) → sunday_move P T s ≡ at s' q' → lists.Noted P T noted₀ (at s q) count noted
+      → lists.Noted P T noted₀ (at s' q') (count + 1) (put_move noted count s s' 1)
+  end-noted z differs goes n = lists.noted_more {rule = sunday} p inside n (end-next z differs ∙ goes) (end-rule z differs)
+
+  -- or the engine's stop, where no letter follows the window: no move
+  pub end-stops : {count : ℕ} {noted₀ noted : List ℕ} → q ≡ 0 → (get_or P (length P - 1) 0 ≡ get_or T (s + (length P - 1)) 0 → ⊥) → sunday_move P T s ≡ stop → lists.Noted P T noted₀ (at s q) count noted
+      → lists.Noted P T noted₀ stop count noted
+  end-stops z differs goes n = lists.noted-stop p inside n (end-next z differs ∙ goes)
+
+  -- the comparing left to right begins: nothing is carried, the last letter was looked at and is equal, and letters up to m - 1 are left; or letters are carried, and those up to
+  -- m are left. The comparisons are now c
+  abbrev pub Begun : ℕ → ℕ → Type 0
+  Begun until c = ((q ≡ 0) × ((get_or P (length P - 1) 0 ≡ get_or T (s + (length P - 1)) 0) × ((until ≡ length P - 1) × (c ≡ compared + 1)))) ⊎ ((1 ≤ q) × ((until ≡ length P) × (c ≡ compared)))
+
+  -- the window then moves by KMP's rule, by as many letters as are equal
+  begun-step : {until c : ℕ} → Begun until c → ((window P T s q).next ≡ kmp_move P s (reach P T s q)) × ((step P T s q).rule ≡ kmp)
+  begun-step g =
+      ⊎_elim
+      (λ f.
+      rw f.0
+      (ap (λ v. v.next) (window-fresh P T s p.sound.some inside f.1.0), ap (λ x. x.rule) (step-fresh P T s f.1.0)))
+      (λ f. (ap (λ v. v.next) (window-carried P T s q f.0), ap (λ x. x.rule) (step-carried P T s q f.0)))
+      g
+
+  pub begun-noted : {until c r s' q' count : ℕ} {noted₀ noted : List ℕ} → Begun until c → reach P T s q ≡ r → kmp_move P s r ≡ at s' q' → lists.Noted P T noted₀ (at s q) count noted
+      → lists.Noted P T noted₀ (at s' q') (count + 1) (put_move noted count s s' 2)
+  begun-noted g e goes n = let b = begun-step g in lists.noted_more p inside n (b.0 ∙ ap (kmp_move P s) e ∙ goes) b.1
 
 -- the search at the window that starts at s and carries q letters, fewer than the pattern has: the run's progress, what was told of the moves so far, which are no more than the places passed, and a start that
 -- is not far past the text's end
@@ -70,32 +114,21 @@ module _ {P T scratch : List ℕ} (r : Ready P T scratch) where
     p : Progress fjs P T list₀ (at s q) total compared list
     p = g.run.progress
 
-    -- nothing is carried, so the state is one that carries nothing
-    at_none : q ≡ 0 → Progress fjs P T list₀ (at s 0) total compared list
-    at_none z = subst (λ n. Progress fjs P T list₀ (at s n) total compared list) z p
-
     -- nothing is carried and the last letter differs: one look, and Sunday's move
     module _ (z : q ≡ 0) (differs : get_or P (length P - 1) 0 ≡ get_or T (s + (length P - 1)) 0 → ⊥) where
-      end-differs : Progress fjs P T list₀ (sunday_move P T s) total (compared + 1) list
-      end-differs = missed-as (at_none z) inside (window-end P T s differs) refl refl
-
-      end-next : (window P T s q).next ≡ sunday_move P T s
-      end-next = rw z (ap (λ v. v.next) (window-end P T s differs))
-
       -- a letter follows the window
       pub jumped : {a' : A} → let d = get_or scratch (get_or T (s + length P) 0) 0 in s + length P < length T → get_or T (s + length P) 0 < 256 → a' ≡ after a s (s + d) 1
           → Going after noted P T list₀ a₀ (s + d) q total (compared + 1) list a'
       jumped more byte is =
           let e = sunday-reads P (get_or T (s + length P) 0) (sundays r) byte in
-          let by : (step P T s q).rule ≡ sunday = rw z (ap (λ x. x.rule) (step_end P T s differs)) in
           let d : ℕ = get_or scratch (get_or T (s + length P) 0) 0 in
           rw (z, is)
-          (going (sunday-goes s end-differs more e) (noted_more p inside g.moves (end-next ∙ sunday-next P T s more e) by)
+          (going (sunday-goes s (end-differs p inside z differs) more e) (noted_more p inside g.moves (end-next p inside z differs ∙ sunday-next P T s more e) (end-rule p inside z differs))
           (omega (arith, g.few, one_more a s (s + d) 1, e.least)) (omega (arith, e.most)))
 
       -- none does: the engine's stop, with no move
       stops : length T ≤ s + length P → Ended after P T list₀ a₀ total (compared + 1) list a
-      stops none = ended (sunday-over s end-differs none) (noted-stop p inside g.moves (end-next ∙ sunday-stop P T s none)) (run-stop p.sound)
+      stops none = ended (sunday-over s (end-differs p inside z differs) none) (noted-stop p inside g.moves (end-next p inside z differs ∙ sunday-stop P T s none)) (run-stop p.sound)
 
     -- the comparing left to right, up to a letter `until`, found `equal` letters equal; where nothing is carried, the last letter is equal, and looking at it was 1 - q looks more. So the window
     -- reports, or it does not; and it is moved by KMP's rule, by as many letters as are equal
@@ -148,21 +181,18 @@ module _ {P T scratch : List ℕ} (r : Ready P T scratch) where
           (λ x.
           let w = part x in
           let looks = looks-part (length P - 1) (min (length P - 1) (reach P T s 0)) (omega (arith, to, w.0, f.0)) in
-          rw (w.1.0, w.1.1.0) (missed-as (at_none z) inside v (omega (arith, looks, to, w.0, w.1.1.1, f.0)) (ne_eqb (reach P T s 0) (length P) (λ e. omega (arith, to, w.0, f.0)))))
+          rw (w.1.0, w.1.1.0) (missed-as (at_none p inside z) inside v (omega (arith, looks, to, w.0, w.1.1.1, f.0)) (ne_eqb (reach P T s 0) (length P) (λ e. omega (arith, to, w.0, f.0)))))
           (λ x.
           let w = all x in
           let looks = looks-all (length P - 1) (min (length P - 1) (reach P T s 0)) (omega (arith, to, w.0)) in
-          rw (w.1.0, w.1.1.0) (reported-as (at_none z) inside v (omega (arith, looks, to, w.0, w.1.1.1, f.0, found)) (eq-eqb (reach P T s 0) (length P) (to ∙ w.0))))
+          rw (w.1.0, w.1.1.0) (reported-as (at_none p inside z) inside v (omega (arith, looks, to, w.0, w.1.1.1, f.0, found)) (eq-eqb (reach P T s 0) (length P) (to ∙ w.0))))
           (cases_lt (q + equal) until))
 
       by-kmp : ((window P T s q).next ≡ kmp_move P s (reach P T s q)) × ((step P T s q).rule ≡ kmp)
       by-kmp =
-          ⊎_elim
-          (λ h. (ap (λ v. v.next) (window-carried P T s q h), ap (λ x. x.rule) (step-carried P T s q h)))
-          (λ h.
-          let z : q ≡ 0 = omega arith in
-          rw z (ap (λ v. v.next) (window-fresh P T s g.run.some inside (fresh z).1), ap (λ x. x.rule) (step-fresh P T s (fresh z).1)))
-          (cases_lt 0 q)
+          let begun : Begun p inside until (compared + (1 - q)) =
+          ⊎_elim (λ h. inr (h, (carried h, omega arith))) (λ h. let f = fresh (omega arith) in inl (omega arith, (f.1, (f.0, omega arith)))) (cases_lt 0 q) in
+          begun-step p inside begun
 
       pub moved : {q' : ℕ} {a' : A} → let b = get_or scratch (256 + k) 0 in let to = s + (k + 1 - b) in q' ≡ b - 1 → a' ≡ after a s to 2 → Going after noted P T list₀ a₀ to q' t c l a'
       moved {q' = q'} carries is' =

@@ -2,8 +2,9 @@
 use mathlib.Core.Path.{◌≡◌, refl, sym, ap, ap₂, ◌∙◌}
 use Prim.Native.Nat.{ℕ, ◌+◌, ◌*◌, ◌/◌, ◌≤◌, ◌<◌}
 use native.Mathlib.Omega.{arith}
+use mathlib.Core.Bool.{cond}
 use mathlib.Core.List.{List, [], ◌∷◌, ◌++◌, append-nil, append_assoc}
-use lib.ListN.{length, take, length-append}
+use lib.ListN.{length, set, take, length-append, length-set}
 use lib.Seq.{take-nil, take_all, take-append-le}
 use lib.Dec.{leb}
 use borrow.Author.Tests.{leb-true, leb-false}
@@ -28,8 +29,13 @@ unfolding numbers
 numbers_more [] m = refl
 numbers_more (l ∷ ms) m = ap (λ (ns : List ℕ). l.old ∷ l.new ∷ rule_number l.rule ∷ ns) (numbers_more ms m)
 
+-- the list keeps its length
+pub put-long : (list : List ℕ) (index old new rule : ℕ) → length (put_move list index old new rule) ≡ length list
+put-long list index old new rule =
+    by-test (λ t. length (cond t (set (set (set list (3 * index) old) (3 * index + 1) new) (3 * index + 2) rule) list) ≡ length list) (leb (3 * index + 3) (length list)) (λ _. simp length-set) (λ _. refl)
+
 -- one move more at the index after those noted: there is room for it, and it is noted, or there is none, and it makes no difference
-fitting-more : (list : List ℕ) (ms : List Move) (m : Move) {count : ℕ} → count ≡ length ms
+pub fitting-more : (list : List ℕ) (ms : List Move) (m : Move) {count : ℕ} → count ≡ length ms
     → put_move (received list (fitting (length list) ms)) count m.old m.new (rule_number m.rule) ≡ received list (fitting (length list) (ms ++ m ∷ []))
 fitting-more list ms m {count} e =
     let k : ℕ = length list / 3 in
@@ -80,6 +86,22 @@ module _ {A : Type 0} (after : A → ℕ → ℕ → ℕ → A) where
 
 -- ---- along the run: the moves so far and those of the rest of the run from here are all
 
+-- nothing of the run is left
+pub whole-done : (P T : List ℕ) (x : State) (done : List Move) → done ++ moves_in P T (run_from window P T x) ≡ moves P T → run_from window P T x ≡ [] → done ≡ moves P T
+unfolding moves_in
+whole-done P T x done whole ended = sym (append-nil done) ∙ ap (λ vs. done ++ moves_in P T vs) (sym ended) ∙ whole
+
+-- one window more
+module _ {P T list₀ list : List ℕ} {s q total compared : ℕ} (p : Progress fjs P T list₀ (at s q) total compared list) (inside : s + length P ≤ length T) (done : List Move)
+    (whole : done ++ moves_in P T (run_from window P T (at s q)) ≡ moves P T) {x : State} (next : (window P T s q).next ≡ x) {rule : Rule} (by : (step P T s q).rule ≡ rule) where
+  pub onward : done ++ (move_to s x rule ++ moves_in P T (run_from window P T x)) ≡ moves P T
+  unfolding moves_in
+  onward =
+      ap (λ ms. done ++ ms)
+      (ap₂ (λ y r. move_to s y r ++ moves_in P T (run_from window P T y)) (sym next) (sym by) ∙ ap (moves_in P T) (sym (run_on p.sound s q inside p.carried)))
+      ∙ whole
+
+-- and what was told of them
 pub record Noted {A : Type 0} (after : A → ℕ → ℕ → ℕ → A) (P T : List ℕ) (a₀ : A) (x : State) (a : A) : Type 0 where
   pub done : List Move
   pub whole : done ++ moves_in P T (run_from window P T x) ≡ moves P T
@@ -92,23 +114,12 @@ module _ {A : Type 0} {after : A → ℕ → ℕ → ℕ → A} {P T : List ℕ}
 
   -- nothing of the run is left
   pub all-noted : {x : State} {a : A} → Noted after P T a₀ x a → run_from window P T x ≡ [] → a ≡ told after a₀ (moves P T)
-  unfolding moves_in
-  all-noted n ended = n.noted ∙ ap (told after a₀) (sym (append-nil n.done) ∙ ap (λ vs. n.done ++ moves_in P T vs) (sym ended) ∙ n.whole)
-
-  -- one window more
-  module _ {list₀ list : List ℕ} {s q total compared : ℕ} {a : A} (p : Progress fjs P T list₀ (at s q) total compared list) (inside : s + length P ≤ length T) (n : Noted after P T a₀ (at s q) a)
-      {x : State} (next : (window P T s q).next ≡ x) {rule : Rule} (by : (step P T s q).rule ≡ rule) where
-    onward : n.done ++ (move_to s x rule ++ moves_in P T (run_from window P T x)) ≡ moves P T
-    unfolding moves_in
-    onward =
-        ap (λ ms. n.done ++ ms)
-        (ap₂ (λ y r. move_to s y r ++ moves_in P T (run_from window P T y)) (sym next) (sym by) ∙ ap (moves_in P T) (sym (run_on p.sound s q inside p.carried)))
-        ∙ n.whole
+  all-noted {x} n ended = n.noted ∙ ap (told after a₀) (whole-done P T x n.done n.whole ended)
 
   -- a window that stops makes none
   pub noted-stop : {list₀ list : List ℕ} {s q total compared : ℕ} {a : A} → Progress fjs P T list₀ (at s q) total compared list → s + length P ≤ length T → Noted after P T a₀ (at s q) a
       → (window P T s q).next ≡ stop → Noted after P T a₀ stop a
-  noted-stop p inside n next = record { done = n.done; whole = onward p inside n next refl; noted = n.noted }
+  noted-stop p inside n next = record { done = n.done; whole = onward p inside n.done n.whole next refl; noted = n.noted }
 
   -- a window that goes on makes one
   pub noted_more : {list₀ list : List ℕ} {s q total compared s' q' : ℕ} {a : A} {rule : Rule} → Progress fjs P T list₀ (at s q) total compared list → s + length P ≤ length T
@@ -117,6 +128,6 @@ module _ {A : Type 0} {after : A → ℕ → ℕ → ℕ → A} {P T : List ℕ}
       let m : Move = record { old = s; new = s'; rule = rule } in
       record {
         done = n.done ++ m ∷ [];
-        whole = append_assoc n.done (m ∷ []) (moves_in P T (run_from window P T (at s' q'))) ∙ onward p inside n next by;
+        whole = append_assoc n.done (m ∷ []) (moves_in P T (run_from window P T (at s' q'))) ∙ onward p inside n.done n.whole next by;
         noted = ap (λ (b : A). after b s s' (rule_number rule)) n.noted ∙ sym (told_more after a₀ n.done m);
       }

@@ -6,6 +6,7 @@ use native.Mathlib.Omega.{arith}
 use mathlib.Core.List.{List, ◌++◌, append_assoc}
 use lib.ListN.{length, drop, length-append}
 use Rattle.matching.specs.Received.{received}
+use Rattle.matching.proofs.Received.{length-received}
 use Rattle.std.proofs.lemmas.Bool.{cases_lt}
 use Rattle.matching.specs.Find.{refusal, refusal_of}
 use Rattle.matching.proofs.Find.{Within, long-refused}
@@ -34,8 +35,8 @@ pub allowed : (P T : List ℕ) {scratch : List ℕ} {m : ℕ} → m ≡ min (len
 allowed P T {scratch} short is = accepted-ok (refused P T scratch short is)
 
 -- the limits are kept, the tables are made and the gap is found
-pub ready : {P T scratch scratch' : List ℕ} {place : ℕ} → Accepted improved_fjs P T scratch → scratch' ≡ received scratch (improved_fjs.tables P) → length scratch' ≡ length scratch → place ≡ mdp P - 1 → Ready P T scratch' place
-ready {P} {T} {scratch} a tables long gap =
+pub ready : {P T scratch scratch' : List ℕ} {place : ℕ} → Accepted improved_fjs P T scratch → scratch' ≡ received scratch (improved_fjs.tables P) → place ≡ mdp P - 1 → Ready P T scratch' place
+ready {P} {T} {scratch} a tables gap =
     let l = a.limits in
     record {
       some = l.some;
@@ -43,7 +44,7 @@ ready {P} {T} {scratch} a tables long gap =
       small = l.small;
       rest = drop (256 + length (border_tables P)) scratch;
       tables = tables ∙ rest-received 256 (sunday_entry P) (border_tables P) scratch (omega (arith, l.room, border_tables-length P));
-      room = omega (arith, l.room);
+      room = omega (arith, l.room, ap length tables, length-received scratch (improved_fjs.tables P));
       gap = gap;
       inside = omega (arith, gap-inside P l.some);
     }

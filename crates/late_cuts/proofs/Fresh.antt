@@ -34,26 +34,33 @@ use Rattle.late_cuts.proofs.Lists.{received-added, received-most, puts_then}
 pub not_refused : (m n : ℕ) → 1 ≤ m → m ≤ 1024 → n ≤ 32768 → refusal m n 0 0 ≡ 0
 not_refused m n some short small = none-refused m n 0 0 (record { some = some; short = short; small = small; room = omega arith })
 
-module _ {P T list : List ℕ} {r : Finding} {scratch' list' : List ℕ} (f : Found naive P T [] list r scratch' list') (none : refusal (length P) (length T) 0 0 ≡ 0) where
-  total : r.total ≡ length (occurrences P T)
-  total = ap (λ (x : Finding). x.total) (found-answer f none)
+-- whatever scratch it is lent
+pub no-scratch : (m n has : ℕ) → refusal m n 0 0 ≡ 0 → refusal m n has 0 ≡ 0
+no-scratch m n has none =
+    let w = within m n 0 0 none in
+    none-refused m n has 0 (record { some = w.some; short = w.short; small = w.small; room = omega arith })
+
+module _ {P T scratch list : List ℕ} {r : Finding} {scratch' list' : List ℕ} (f : Found naive P T scratch list r scratch' list') (none : refusal (length P) (length T) 0 0 ≡ 0) where
+  pub part-total : r.total ≡ length (occurrences P T)
+  part-total = ap (λ (x : Finding). x.total) (found-answer f (no-scratch (length P) (length T) (length scratch) none))
+
+  listed : list' ≡ received list (occurrences P T)
+  listed = found-listed f (no-scratch (length P) (length T) (length scratch) none)
 
   -- the places are small enough to be moved
   pub part_small : Small r.total list'
   part_small =
       record {
-        small = λ i h.
-            rw (found-listed f none)
-            (received-most 32768 list (occurrences P T) (λ j l. omega (arith, occurrences-below P T j l, (within (length P) (length T) 0 0 none).small)) i (omega (arith, total)));
+        small = λ i h. rw listed (received-most 32768 list (occurrences P T) (λ j l. omega (arith, occurrences-below P T j l, (within (length P) (length T) 0 0 none).small)) i (omega (arith, part-total)));
       }
 
   -- and moved, they are what the list received
   pub part_moved : (place : ℕ) {list'' : List ℕ} → list'' ≡ moved_up place (take r.total list') ++ drop r.total list' → list'' ≡ received list (moved_up place (occurrences P T))
   part_moved place is =
-      is ∙ ap₂ (λ (n : ℕ) (l : List ℕ). moved_up place (take n l) ++ drop n l) total (found-listed f none) ∙ received-added place list (occurrences P T)
+      is ∙ ap₂ (λ (n : ℕ) (l : List ℕ). moved_up place (take n l) ++ drop n l) part-total listed ∙ received-added place list (occurrences P T)
 
   pub part_total : (place : ℕ) → r.total ≡ length (moved_up place (occurrences P T))
-  part_total place = total ∙ sym (length-map (occurrences P T) (λ (k : ℕ). k + place))
+  part_total place = part-total ∙ sym (length-map (occurrences P T) (λ (k : ℕ). k + place))
 
 -- there are no more places than letters, and one
 pub puts_few : (place : ℕ) (P T : List ℕ) {a b : Listing} → Puts a (moved_up place (occurrences P T)) b → b.total ≤ a.total + suc (length T)
@@ -161,26 +168,32 @@ module _ (P before letters after : List ℕ) (some : 1 ≤ length P) (fore : len
 
 -- ---- the two sides of the stretch
 
+module _ (T : List ℕ) (start end side from to : ℕ) (ordered : start ≤ end) (inside : end ≤ length T) (before : from ≡ start - min side start) (after : to ≡ end + min side (length T - end)) where
+  pub side_before : take (start - from) (drop from T) ≡ last_of side (take start T)
+  side_before =
+      let size : from ≡ length (take start T) - side = omega (arith, length-take-le start T (omega arith)) in
+      part-is from start T ∙ ap (λ (n : ℕ). drop n (take start T)) size
+
+  pub side_after : take (to - end) (drop end T) ≡ take side (drop end T)
+  side_after =
+      by-test (λ _. take (to - end) (drop end T) ≡ take side (drop end T)) (leb side (length T - end))
+      (λ t.
+      let h : side ≤ length T - end = leb-true side (length T - end) t in
+      let all : to - end ≡ side = omega arith in
+      ap (λ (n : ℕ). take n (drop end T)) all)
+      (λ t.
+      let h : length T - end < side = leb-false side (length T - end) t in
+      take_all (to - end) (drop end T) (omega (arith, length-drop end T)) ∙ sym (take_all side (drop end T) (omega (arith, length-drop end T))))
+
+  -- the length of the one before it
+  pub length_before : length (take (start - from) (drop from T)) ≡ start - from
+  length_before = length-take-le (start - from) (drop from T) (omega (arith, length-drop from T))
+
 pub are_fresh : (P T letters : List ℕ) (start end from to : ℕ) → start ≤ end → end ≤ length T → from ≡ start - (length P - 1) → to ≡ min (length T) (end + (length P - 1))
     → fresh P T (cut start end letters) ≡ moved_up from (occurrences P (take (start - from) (drop from T) ++ letters ++ take (to - end) (drop end T)))
 are_fresh P T letters start end from to ordered inside before after =
-    ap₂ (λ (n : ℕ) (l : List ℕ). moved_up n (occurrences P l)) (sym before) (ap₂ (λ (a b : List ℕ). a ++ letters ++ b) (sym fore) (sym aft))
-  where
-    side : ℕ
-    side = length P - 1
-
-    fore : take (start - from) (drop from T) ≡ last_of side (take start T)
-    fore =
-        let size : from ≡ length (take start T) - side = omega (arith, length-take-le start T (omega arith)) in
-        part-is from start T ∙ ap (λ (n : ℕ). drop n (take start T)) size
-
-    aft : take (to - end) (drop end T) ≡ take side (drop end T)
-    aft =
-        by-test (λ _. take (to - end) (drop end T) ≡ take side (drop end T)) (leb side (length T - end))
-        (λ t.
-        let h : side ≤ length T - end = leb-true side (length T - end) t in
-        let all : to - end ≡ side = omega arith in
-        ap (λ (n : ℕ). take n (drop end T)) all)
-        (λ t.
-        let h : length T - end < side = leb-false side (length T - end) t in
-        take_all (to - end) (drop end T) (omega (arith, length-drop end T)) ∙ sym (take_all side (drop end T) (omega (arith, length-drop end T))))
+    let side : ℕ = length P - 1 in
+    let starts : from ≡ start - min side start = omega arith in
+    let ends : to ≡ end + min side (length T - end) = omega arith in
+    ap₂ (λ (n : ℕ) (l : List ℕ). moved_up n (occurrences P l)) (sym before)
+    (ap₂ (λ (a b : List ℕ). a ++ letters ++ b) (sym (side_before T start end side from to ordered inside starts ends)) (sym (side_after T start end side from to ordered inside starts ends)))

@@ -1,4 +1,5 @@
 -- The laws of late cuts.
+pub mod Entries
 pub mod Lists
 pub mod Calls
 pub mod Signed

@@ -20,6 +20,7 @@ use Rattle.cuts.proofs.Lists.{next_place, rises_next}
 use Rattle.late_cuts.specs.declared.Listing.{Listing}
 use Rattle.late_cuts.specs.LateCuts.{stays, moves, moved_by}
 use Rattle.late_cuts.specs.Asked.{Puts}
+use Rattle.late_cuts.proofs.Entries as entries
 
 -- ---- those that stay, and those that move
 
@@ -176,21 +177,11 @@ pub added_none : (number : ℕ) (old : List ℕ) → Added number old old 0
 added_none number old = record { is = refl }
 
 pub added_next : {number : ℕ} {old now : List ℕ} {i : ℕ} → Added number old now i → i < length old → get_or now i 0 ≡ get_or old i 0
-added_next {number} {old} {i = i} a h = rw a.is (unchanged old i h)
-  where
-    unchanged : (list : List ℕ) (i : ℕ) → i < length list → get_or (moved_up number (take i list) ++ drop i list) i 0 ≡ get_or list i 0
-    unchanged [] i h = absurd (omega arith)
-    unchanged (x ∷ list) zero h = refl
-    unchanged (x ∷ list) (suc i) h = unchanged list i (omega arith)
+added_next {number} {old} {i = i} a h = rw a.is (entries.added_next number old i h)
 
 pub added_more : {number : ℕ} {old now : List ℕ} {i : ℕ} → Added number old now i → i < length old → Added number old (set now i (get_or now i 0 + number)) (i + 1)
 added_more {number} {old} {now} {i} a h =
-    record { is = rw (added_next a h, add-one i) (ap (λ (l : List ℕ). set l i (get_or old i 0 + number)) a.is ∙ more old i h) }
-  where
-    more : (list : List ℕ) (i : ℕ) → i < length list → set (moved_up number (take i list) ++ drop i list) i (get_or list i 0 + number) ≡ moved_up number (take (suc i) list) ++ drop (suc i) list
-    more [] i h = absurd (omega arith)
-    more (x ∷ list) zero h = refl
-    more (x ∷ list) (suc i) h = ap (λ (l : List ℕ). (x + number) ∷ l) (more list i (omega arith))
+    record { is = rw (added_next a h, add-one i) (ap (λ (l : List ℕ). set l i (get_or old i 0 + number)) a.is ∙ entries.added_more number old i h) }
 
 -- where the list has fewer entries, to all
 pub added_all : {number : ℕ} {old now : List ℕ} {i : ℕ} (count : ℕ) → Added number old now i → i ≡ min count (length old) → now ≡ moved_up number (take count old) ++ drop count old

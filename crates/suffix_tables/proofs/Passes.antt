@@ -85,6 +85,13 @@ front-settled {P} {table₀} {table} {q} {k} v h f e d =
 
 -- ---- place after place
 
+-- from r + 1 on they stand again at the latest where they do from r on
+pub next-step : {P : List ℕ} {r e t : ℕ} → r < length P → Next P r e → Next P (suc r) t → t ≤ suc e
+next-step {P} {r} {e} {t} h n m =
+    by-test (λ _. t ≤ suc e) (ltb (suc e) t)
+    (λ x. absurd (m.first (suc e) (omega (arith, n.later)) (ltb-true (suc e) t x) (again-less (n.again (n.inside h)))))
+    (λ x. ltb-false (suc e) t x)
+
 -- at place r the entries before t are done: the letters from t on stand again after r
 pub record Walk (P : List ℕ) (r t : ℕ) (table₀ table : List ℕ) : Type 0 where
   pub held : Held P table₀ table

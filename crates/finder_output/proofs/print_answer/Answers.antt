@@ -1,7 +1,7 @@
 -- `print_answer`: an input that is too long is refused, and any other is split and answered.
 use Rattle.std.proofs.Common.{◌≡◌, arith, length-take-le, rules, sym}
 use Rattle.finder_output.proofs.Promise.{promise-refused, promise-answered}
-use Rattle.finder_output.proofs.Split.{end_is, split_at, phrase-within}
+use Rattle.finder_output.proofs.Split.{end_is, split-min, phrase-within}
 use Rattle.finder_output.proofs.print_answer.Goals as goal
 
 pub returns-then-input-gt-LONGEST_INPUT : goal.returns-then-input-gt-LONGEST_INPUT
@@ -15,4 +15,4 @@ slice_bounds-put_answer-end c =
     sym (length-take-le c.unwrap_or-end.result c.args.input.now (omega (arith, end_is c.args.input.now c.phrase_end.ensures c.unwrap_or-end.ensures, phrase-within c.args.input.now)))
 
 pub returns : goal.returns
-returns c = promise-answered (omega arith) (omega arith) (split_at (end_is c.args.input.now c.phrase_end.ensures c.unwrap_or-end.ensures) c.min-start.ensures) c.put_answer.ensures
+returns c = promise-answered (omega arith) (omega arith) (split-min (end_is c.args.input.now c.phrase_end.ensures c.unwrap_or-end.ensures) c.min-start.ensures) c.put_answer.ensures

@@ -7,7 +7,7 @@ use Rattle.fjs.proofs.Listed.{same_list, listed}
 use Rattle.fjs.proofs.find_moves.Goals as goal
 
 pub search-tally-requires-clause-ready : goal.search-tally-requires-clause-ready
-search-tally-requires-clause-ready c = ready c.prepare.ensures.made (accepted-ok c.in_ok-prepare.ensures.refused) (omega arith)
+search-tally-requires-clause-ready c = ready c.prepare.ensures.made (accepted-ok c.in_ok-prepare.ensures.refused)
 
 pub overflow_cast-result : goal.overflow_cast-result
 overflow_cast-result c =

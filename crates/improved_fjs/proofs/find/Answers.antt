@@ -25,7 +25,7 @@ overflow_sub-widest c =
 
 pub search-requires : goal.search-requires
 search-requires c =
-    ready (allowed c.args.pattern.now c.args.text.now c.min-tabled.ensures c.in_ok-refused.ensures) c.make_tables-widest.ensures.made (omega arith)
+    ready (allowed c.args.pattern.now c.args.text.now c.min-tabled.ensures c.in_ok-refused.ensures) c.make_tables-widest.ensures.made
     (ap (λ (g : Gap). g.letter - 1) c.make_tables-widest.ensures.gap)
 
 pub returns : goal.returns
