@@ -315,8 +315,7 @@ typedef struct {
  * So two books that are not refused as a whole and have the same open cues in the same order give a guest, in calls otherwise alike, the same answer and
  * leave the same memory, whatever cues are house only in either and however many.
  *
- * Copy, scratch and entries must not overlap each other or the book or the text. The call also works in 2,560 bytes of the stack, and in 256 more by
- * page 15. */
+ * Copy, scratch and entries must not overlap each other or the book or the text. The call also works in 2,560 bytes of the stack, by either page. */
 libretto_resolving libretto_resolve(uint32_t role, uint32_t day, uint32_t page, const uint8_t *book, size_t book_len, const uint8_t *text,
                                     size_t text_len, uint8_t *copy, size_t copy_len, uint16_t *scratch, size_t scratch_len, uint32_t *entries,
                                     size_t entries_len);
